@@ -1,0 +1,107 @@
+-- The fields of a header, a person, a step and a rule card, and what they may be. "Bytes not named below are zero." Assumes nothing.
+use mathlib.Core.Bool.{Bool, not, cond, _&&_, _||_}
+use mathlib.Core.List.{List}
+use Prim.Native.Nat.{ℕ, _/_, _^_}
+use lib.Dec.{eqb, leb}
+use Rattle.bits.specs.Word.{bitsSet}
+use Rattle.card.specs.Layout.{cardByte, cardWord, cardLong, kindOf, nextOf, headerKind, personKind, stepKind}
+
+-- x is at least a and at most b
+abbrev pub within : ℕ → ℕ → ℕ → Bool
+within a b x = leb a x && leb x b
+
+abbrev pub nonzero : ℕ → Bool
+nonzero x = not (eqb x 0)
+
+-- the set x, a bit for each step, has no bit from n on
+abbrev pub onlyBelow : ℕ → ℕ → Bool
+onlyBelow n x = eqb (x / 2 ^ n) 0
+
+-- "Header, card 0: byte 1 is 1, next is 0; bytes 4-5, 6-7 and 8-9 are the first person, step and rule, zero for an empty chain; bytes
+-- 10-11 the number of cards in the file."
+abbrev pub firstPerson : List ℕ → ℕ
+firstPerson s = cardWord s 0 4
+
+abbrev pub firstStep : List ℕ → ℕ
+firstStep s = cardWord s 0 6
+
+abbrev pub firstRule : List ℕ → ℕ
+firstRule s = cardWord s 0 8
+
+-- the header of a file of n cards
+unfoldable pub headerOk : List ℕ → ℕ → Bool
+headerOk s n =
+    eqb (kindOf s 0) headerKind
+    && eqb (cardByte s 0 1) 1
+    && eqb (nextOf s 0) 0
+    && eqb (cardWord s 0 10) n
+    && eqb (cardLong s 0 12) 0
+
+-- "Person: bytes 4-7 tag; 8-9 shop; 10-11 bench; 12-13 the steps permitted, bit j for step j."
+abbrev pub tagOf : List ℕ → ℕ → ℕ
+tagOf s c = cardLong s c 4
+
+abbrev pub shopOf : List ℕ → ℕ → ℕ
+shopOf s c = cardWord s c 8
+
+abbrev pub benchOf : List ℕ → ℕ → ℕ
+benchOf s c = cardWord s c 10
+
+abbrev pub permittedOf : List ℕ → ℕ → ℕ
+permittedOf s c = cardWord s c 12
+
+-- "Tag, shop and bench are not zero." "A person's permitted bits 12 to 15 are tested on the card."
+unfoldable pub personOk : List ℕ → ℕ → Bool
+personOk s c =
+    eqb (cardByte s c 1) 0
+    && nonzero (tagOf s c)
+    && nonzero (shopOf s c)
+    && nonzero (benchOf s c)
+    && onlyBelow 12 (permittedOf s c)
+    && eqb (cardWord s c 14) 0
+
+-- "Step: bytes 4-7 tag, not zero."
+unfoldable pub stepOk : List ℕ → ℕ → Bool
+stepOk s c =
+    eqb (cardByte s c 1) 0
+    && nonzero (tagOf s c)
+    && eqb (cardLong s c 8) 0
+    && eqb (cardLong s c 12) 0
+
+-- "Rule: byte 1 rule kind 1 to 4; byte 4 level 1 to 3; byte 5 limit; bytes 6-7 scope, bit j for step j"
+abbrev pub ruleKindOf : List ℕ → ℕ → ℕ
+ruleKindOf s c = cardByte s c 1
+
+abbrev pub levelOf : List ℕ → ℕ → ℕ
+levelOf s c = cardByte s c 4
+
+abbrev pub limitOf : List ℕ → ℕ → ℕ
+limitOf s c = cardByte s c 5
+
+abbrev pub scopeOf : List ℕ → ℕ → ℕ
+scopeOf s c = cardWord s c 6
+
+-- how many steps are in a scope
+abbrev pub scopeSize : ℕ → ℕ
+scopeSize scope = bitsSet 16 scope
+
+-- "Kind 1, same: two steps in scope, limit 0. Kind 2, different: two steps in scope, limit 0. Kind 3, at most: two or more steps, limit 1
+-- to the number of steps in scope. Kind 4, at least: as kind 3."
+unfoldable pub limitOk : ℕ → ℕ → ℕ → Bool
+limitOk kind limit size =
+    (within 1 2 kind && eqb size 2 && eqb limit 0)
+    || (within 3 4 kind && leb 2 size && within 1 size limit)
+
+-- "bits not below the number of steps are zero, or this card gets 8": steps is how many the step chain has
+unfoldable pub ruleOk : List ℕ → ℕ → ℕ → Bool
+ruleOk s steps c =
+    limitOk (ruleKindOf s c) (limitOf s c) (scopeSize (scopeOf s c))
+    && within 1 3 (levelOf s c)
+    && onlyBelow steps (scopeOf s c)
+    && eqb (cardLong s c 8) 0
+    && eqb (cardLong s c 12) 0
+
+-- the fields of a card on the chain of a kind; steps matters for rules alone
+unfoldable pub fieldsOk : List ℕ → ℕ → ℕ → ℕ → Bool
+fieldsOk s steps kind c =
+    cond (eqb kind personKind) (personOk s c) (cond (eqb kind stepKind) (stepOk s c) (ruleOk s steps c))

@@ -1,0 +1,4 @@
+pub mod Step
+pub mod Going
+pub mod Chained
+pub mod Refused

@@ -1,0 +1,84 @@
+-- The instance of a readable job is one of the published problem: its classes nest, and its rules are in order. Assumes nothing.
+use mathlib.Core.Bool.{Bool, true, false, _&&_, _||_}
+use mathlib.Core.List.{List}
+use mathlib.Core.Path.{_≡_, refl, sym, _∙_, ap, subst}
+use Prim.Native.Nat.{ℕ, zero, suc, _+_, _-_, _^_, _<_, _≤_}
+use native.Mathlib.Nat.{zero-add, suc-add}
+use native.Mathlib.Omega.{arith}
+use lib.Dec.{eqb, leb}
+use lib.ListN.{getD}
+use borrow.Author.Tests.{eqb-true, leb-true}
+use Rattle.bits.specs.Below.{count}
+use Rattle.bits.specs.Word.{hasBit, bitsSet}
+use Rattle.bits.proofs.Below.{by-cases, true-false, and-left, and-right}
+use Rattle.bits.proofs.Counting.{count-false, is-false}
+use Rattle.bits.proofs.SetLaws.{has-below}
+use Rattle.card.specs.Fields.{limitOk, within}
+use Rattle.sheet.specs.Readable.{ReadableJob}
+use Rattle.sheet.specs.declared.Job as sheet
+use Rattle.workflow.specs.Problem.{Kind, Nested, RuleOk, Fits}
+use Rattle.workflow.specs.Numbered.{kindIn}
+use Rattle.instance.specs.Instance.{instanceOf}
+
+-- a scope without steps from n on has as many steps below any larger bound
+bits-below : (n x d : ℕ) → x < 2 ^ n → count (d + n) (hasBit x) ≡ count n (hasBit x)
+bits-below n x zero h = ap (λ (m : ℕ). count m (hasBit x)) (zero-add n)
+bits-below n x (suc d) h =
+    ap (λ (m : ℕ). count m (hasBit x)) (suc-add d n)
+    ∙ count-false (d + n) (hasBit x) (is-false _ (λ t. let l = has-below n x (d + n) h t in omega arith))
+    ∙ bits-below n x d h
+
+scope-size : (steps x : ℕ) → steps ≤ 12 → x < 2 ^ steps → bitsSet 16 x ≡ count steps (hasBit x)
+scope-size steps x m h = let e : 16 ≡ 16 - steps + steps = omega arith in ap (λ (n : ℕ). count n (hasBit x)) e ∙ bits-below steps x (16 - steps) h
+
+-- the two forms of a limit that was tested
+limit-cases : {P : Type 0} (kind limit size : ℕ) → limitOk kind limit size ≡ true
+    → (kind ≤ 2 → 1 ≤ kind → size ≡ 2 → limit ≡ 0 → P)
+    → (3 ≤ kind → 2 ≤ size → 1 ≤ limit → limit ≤ size → P)
+    → P
+unfolding limitOk
+limit-cases {P} kind limit size h pair range =
+    go (leb 1 kind) (leb kind 2) (eqb size 2) (eqb limit 0) (leb 3 kind) (leb kind 4) (leb 2 size) (leb 1 limit) (leb limit size) h
+    (λ a b c d. pair (leb-true _ _ b) (leb-true _ _ a) (eqb-true _ _ c) (eqb-true _ _ d))
+    (λ a b c d. range (leb-true _ _ a) (leb-true _ _ b) (leb-true _ _ c) (leb-true _ _ d))
+  where
+    go : (a b c d e f g i k : Bool) → (a && b && c && d) || (e && f && g && (i && k)) ≡ true
+        → (a ≡ true → b ≡ true → c ≡ true → d ≡ true → P) → (e ≡ true → g ≡ true → i ≡ true → k ≡ true → P) → P
+    go a b c d e f g i k h x y =
+        by-cases (a && b && c && d)
+        (λ t. let u = and-left (a && b && c) d t in let v = and-left (a && b) c u in
+        x (and-left a b v) (and-right a b v) (and-right (a && b) c u) (and-right (a && b && c) d t))
+        (λ t. let w : e && f && g && (i && k) ≡ true = rw t at h in
+        let u = and-left (e && f && g) (i && k) w in let v = and-right (e && f && g) (i && k) w in
+        y (and-left e f (and-left (e && f) g u)) (and-right (e && f) g u) (and-left i k v) (and-right i k v))
+
+fits : (kind limit size : ℕ) → limitOk kind limit size ≡ true → Fits (kindIn kind) limit size
+fits zero limit size h = limit-cases 0 limit size h (λ a b c d. absurd (omega arith)) (λ a b c d. absurd (omega arith))
+fits (suc zero) limit size h = limit-cases 1 limit size h (λ a b c d. (c, d)) (λ a b c d. absurd (omega arith))
+fits (suc (suc zero)) limit size h = limit-cases 2 limit size h (λ a b c d. (c, d)) (λ a b c d. absurd (omega arith))
+fits (suc (suc (suc zero))) limit size h = limit-cases 3 limit size h (λ a b c d. absurd (omega arith)) (λ a b c d. (b, c, d))
+fits (suc (suc (suc (suc n)))) limit size h =
+    limit-cases (suc (suc (suc (suc n)))) limit size h (λ a b c d. absurd (omega arith)) (λ a b c d. (b, c, d))
+
+module _ (people steps rules : ℕ) (j : sheet.Job) (r : ReadableJob people steps rules j) where
+  pub instance-nested : Nested (instanceOf people steps rules j)
+  instance-nested = record { finer = finer; person = λ p p′ l m e. e }
+    where
+      finer : (q p p′ : ℕ) → 1 ≤ q → q < 3 → p < people → p′ < people
+          → instanceOf people steps rules j .class (suc q) p ≡ instanceOf people steps rules j .class (suc q) p′
+          → instanceOf people steps rules j .class q p ≡ instanceOf people steps rules j .class q p′
+      finer zero p p′ a b l m e = absurd (omega arith)
+      finer (suc zero) p p′ a b l m e = r .nested p p′ l m e
+      finer (suc (suc zero)) p p′ a b l m e = ap (λ (x : ℕ). getD (j .bench) x 0) e
+      finer (suc (suc (suc q))) p p′ a b l m e = absurd (omega arith)
+
+  pub instance-rules : (i : ℕ) → i < rules → RuleOk steps 3 (instanceOf people steps rules j .rule i)
+  instance-rules i l =
+      let k = r .rule i l in
+      record {
+        from = k .level-from;
+        to = k .level-to;
+        fits =
+            subst (Fits (kindIn (getD (j .«rule_kind») i 0)) (getD (j .«rule_limit») i 0)) (scope-size steps (getD (j .«rule_scope») i 0) (r .steps-most) (k .scope))
+            (fits (getD (j .«rule_kind») i 0) (getD (j .«rule_limit») i 0) (bitsSet 16 (getD (j .«rule_scope») i 0)) (k .limit));
+      }

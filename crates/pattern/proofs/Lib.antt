@@ -1,0 +1,15 @@
+pub mod Levels
+pub mod Sets
+pub mod Leader
+pub mod Patterns
+pub mod Place
+pub mod Ways
+pub mod Eligible
+pub mod Realize
+pub mod Matching
+pub mod Names
+pub mod Grown
+pub mod Search
+pub mod Same
+pub mod Counted
+pub mod Kept

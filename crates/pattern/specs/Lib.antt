@@ -1,0 +1,7 @@
+pub mod Pattern
+pub mod Place
+pub mod Eligible
+pub mod Realize
+pub mod Search
+pub mod Kept
+pub mod Tables

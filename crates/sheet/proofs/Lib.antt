@@ -1,0 +1,12 @@
+pub mod Fill
+pub mod Scan
+pub mod Tests
+pub mod Checked
+pub mod Arrays
+pub mod Stage
+pub mod Order
+pub mod Passes
+pub mod Lists
+pub mod Chains
+pub mod Readable
+pub mod Refusals

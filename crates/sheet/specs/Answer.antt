@@ -1,0 +1,61 @@
+-- The reader's answer: the counts or the refusal, and the job's arrays beside it. Assumes nothing.
+use mathlib.Core.List.{List, map, _++_}
+use Prim.Native.Nat.{ℕ, _+_, _*_, _-_}
+use lib.ListN.{length, replicate}
+use Rattle.card.specs.Fields.{tagOf, shopOf, benchOf, permittedOf, ruleKindOf, levelOf, limitOf, scopeOf}
+use Rattle.sheet.specs.Read.{Read, job, fault, readSheet}
+use Rattle.sheet.specs.declared.Job.{Job}
+use Rattle.sheet.specs.declared.Sheet.{Sheet}
+use Rattle.sheet.specs.declared.Reading.{Reading}
+use Rattle.sheet.specs.declared.Reading.the-variants.{Readable, Refused}
+
+-- a field of each card, along the chain, and zeros up to the array's size
+unfoldable pub table : ℕ → (ℕ → ℕ) → List ℕ → List ℕ
+table size field l = map field l ++ replicate (size - length l) 0
+
+-- the arrays of the job that the chains' cards describe
+unfoldable pub jobOf : List ℕ → List ℕ → List ℕ → List ℕ → Job
+jobOf s people steps rules =
+    record {
+      «person_tag» = table 64 (tagOf s) people;
+      «step_tag» = table 12 (tagOf s) steps;
+      shop = table 64 (shopOf s) people;
+      bench = table 64 (benchOf s) people;
+      permitted = table 64 (permittedOf s) people;
+      «rule_scope» = table 64 (scopeOf s) rules;
+      «rule_kind» = table 64 (ruleKindOf s) rules;
+      «rule_level» = table 64 (levelOf s) rules;
+      «rule_limit» = table 64 (limitOf s) rules;
+    }
+
+abbrev pub zeros : ℕ → List ℕ
+zeros n = replicate n 0
+
+-- the arrays beside a refusal
+abbrev pub noJob : Job
+noJob =
+    record {
+      «person_tag» = zeros 64;
+      «step_tag» = zeros 12;
+      shop = zeros 64;
+      bench = zeros 64;
+      permitted = zeros 64;
+      «rule_scope» = zeros 64;
+      «rule_kind» = zeros 64;
+      «rule_level» = zeros 64;
+      «rule_limit» = zeros 64;
+    }
+
+unfoldable pub answer : List ℕ → Read → Sheet
+answer s (job people steps rules) =
+    record { reading = Readable (length people) (length steps) (length rules); job = jobOf s people steps rules }
+answer s (fault f c) = record { reading = Refused f c; job = noJob }
+
+-- what the reader gives for a byte list
+abbrev pub sheetOf : List ℕ → Sheet
+sheetOf s = answer s (readSheet s)
+
+-- "The returned number is 0, or refusal × 256 + card."
+abbrev pub numberOf : Reading → ℕ
+numberOf (Readable people steps rules) = 0
+numberOf (Refused f c) = f * 256 + c

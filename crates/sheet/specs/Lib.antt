@@ -1,0 +1,4 @@
+pub mod Read
+pub mod Answer
+pub mod Cards
+pub mod Readable

@@ -1,0 +1,68 @@
+// The first of several that clashes with an earlier one: a tag that stood before, a bench that stood before with another shop.
+ghost use mathlib.Core.Path.{_≡_};
+ghost use Prim.Native.Nat.{_<_, _≤_};
+ghost use lib.ListN.{length};
+ghost use Rattle.bits.specs.Below.{any};
+ghost use Rattle.sheet.specs.Cards.{equalAt, movedAt};
+ghost use Rattle.sheet.specs.Read.{firstClash};
+
+// Whether the tag at `k` stands at an earlier place too.
+fn tag_stood(tags: &[u32], k: usize) -> bool
+    requires { ⌜ k < length (now tags) ⌝ }
+    ensures { λ r. ⌜ r ≡ any k (λ j. equalAt (now (tags .entry)) j k) ⌝ }
+{
+    let tag = tags[k];
+    let mut found = false;
+    let mut j = 0;
+    while j < k {
+        found = found | (tags[j] == tag);
+        j += 1;
+    }
+    found
+}
+
+// The first of `count` tags that stood earlier; `count` where none did.
+pub fn tag_clash(tags: &[u32], count: usize) -> usize
+    requires { ⌜ count ≤ length (now tags) ⌝ }
+    ensures { λ r. ⌜ r ≡ firstClash count (equalAt (now (tags .entry))) ⌝ }
+{
+    let mut k = 0;
+    while k < count {
+        if tag_stood(tags, k) {
+            return k;
+        }
+        k += 1;
+    }
+    count
+}
+
+// Whether the bench at `k` stands at an earlier place with another shop.
+fn bench_stood(benches: &[u16; 64], shops: &[u16; 64], k: usize) -> bool
+    requires { ⌜ (k < 64) × (length (now benches) ≡ 64) × (length (now shops) ≡ 64) ⌝ }
+    ensures { λ r. ⌜ r ≡ any k (λ j. movedAt (now (benches .entry)) (now (shops .entry)) j k) ⌝ }
+{
+    let bench = benches[k];
+    let shop = shops[k];
+    let mut found = false;
+    let mut j = 0;
+    while j < k {
+        found = found | ((benches[j] == bench) & (shops[j] != shop));
+        j += 1;
+    }
+    found
+}
+
+// The first of `count` people whose bench stood earlier with another shop; `count` where there is none.
+pub fn bench_clash(benches: &[u16; 64], shops: &[u16; 64], count: usize) -> usize
+    requires { ⌜ (count ≤ 64) × (length (now benches) ≡ 64) × (length (now shops) ≡ 64) ⌝ }
+    ensures { λ r. ⌜ r ≡ firstClash count (movedAt (now (benches .entry)) (now (shops .entry))) ⌝ }
+{
+    let mut k = 0;
+    while k < count {
+        if bench_stood(benches, shops, k) {
+            return k;
+        }
+        k += 1;
+    }
+    count
+}

@@ -1,0 +1,213 @@
+// Reading a sheet chain by chain. Each function reads on from what is known, and answers for the whole sheet.
+ghost use mathlib.Core.Bool.{_||_};
+ghost use mathlib.Core.List.{List};
+ghost use mathlib.Core.Path.{_≡_};
+ghost use Prim.Native.Nat.{ℕ, _*_, _<_, _≤_};
+ghost use lib.ListN.{length, take};
+ghost use Rattle.chain.specs.Walk.{member};
+ghost use Rattle.sheet.specs.Answer.{answer, jobOf};
+ghost use Rattle.sheet.specs.Cards.{Listing, Marking};
+ghost use Rattle.sheet.specs.Read.{fault, checked, readPeople, peopleRead, stepsRead};
+use crate::BENCH_FAULT;
+use crate::Job;
+use crate::LOOSE_FAULT;
+use crate::MOST_PEOPLE;
+use crate::MOST_RULES;
+use crate::MOST_STEPS;
+use crate::Reading;
+use crate::Sheet;
+use crate::TAG_FAULT;
+use crate::clash::bench_clash;
+use crate::clash::tag_clash;
+use crate::late::first_late;
+use crate::loose::first_loose;
+use crate::tables::bytes;
+use crate::tables::tags;
+use crate::tables::words;
+use card::fields::PERSON_KIND;
+use card::fields::RULE_KIND;
+use card::fields::STEP_KIND;
+use card::word;
+use chain::COUNT_FAULT;
+use chain::Ended;
+use chain::FIELD_FAULT;
+use chain::walk_chain;
+
+// The answer of a refusal.
+pub fn refused(refusal: u32, card: usize) -> Sheet
+    ensures { λ r. ⌜ ((s : List ℕ) → r ≡ answer s (fault refusal card)) ⌝ }
+{
+    Sheet {
+        reading: Reading::Refused { refusal, card },
+        job: Job {
+            person_tag: [0; 64],
+            step_tag: [0; 12],
+            shop: [0; 64],
+            bench: [0; 64],
+            permitted: [0; 64],
+            rule_scope: [0; 64],
+            rule_kind: [0; 64],
+            rule_level: [0; 64],
+            rule_limit: [0; 64],
+        },
+    }
+}
+
+// The arrays of the job.
+fn fill_job(
+    s: &[u8],
+    people: &[u8; 64],
+    p: usize,
+    steps: &[u8; 64],
+    n: usize,
+    rules: &[u8; 64],
+    r: usize,
+) -> Job
+    requires { ⌜ Listing (now s) (now people) p × Listing (now s) (now steps) n × (n ≤ 12) × Listing (now s) (now rules) r ⌝ }
+    ensures { λ j. ⌜ j ≡ jobOf (now (s .entry)) (take p (now (people .entry))) (take n (now (steps .entry))) (take r (now (rules .entry))) ⌝ }
+{
+    let mut person_tag = [0u32; 64];
+    tags(s, people, p, &mut person_tag);
+    let mut step_tag = [0u32; 12];
+    tags(s, steps, n, &mut step_tag);
+    let shop = words(s, people, p, 8);
+    let bench = words(s, people, p, 10);
+    let permitted = words(s, people, p, 12);
+    let rule_scope = words(s, rules, r, 6);
+    let rule_kind = bytes(s, rules, r, 1);
+    let rule_level = bytes(s, rules, r, 4);
+    let rule_limit = bytes(s, rules, r, 5);
+    Job {
+        person_tag,
+        step_tag,
+        shop,
+        bench,
+        permitted,
+        rule_scope,
+        rule_kind,
+        rule_level,
+        rule_limit,
+    }
+}
+
+// The tags, the benches and the loose cards: reads on when every chain is listed.
+fn after_rules(
+    s: &[u8],
+    cards: usize,
+    marks: &[bool; 141],
+    people: &[u8; 64],
+    p: usize,
+    steps: &[u8; 64],
+    n: usize,
+    rules: &[u8; 64],
+    r: usize,
+) -> Sheet
+    requires { ⌜ Listing (now s) (now people) p × Listing (now s) (now steps) n × (n ≤ 12) × Listing (now s) (now rules) r × Marking (now s) cards (now marks) (λ c. member c (take p (now people)) || member c (take n (now steps)) || member c (take r (now rules))) ⌝ }
+    ensures { λ a. ⌜ a ≡ answer (now (s .entry)) (checked (now (s .entry)) cards (take p (now (people .entry))) (take n (now (steps .entry))) (take r (now (rules .entry)))) ⌝ }
+{
+    let job = fill_job(s, people, p, steps, n, rules, r);
+    let person_tag = job.person_tag;
+    let i = tag_clash(&person_tag, p);
+    if i < p {
+        return refused(TAG_FAULT, people[i] as usize);
+    }
+    let step_tag = job.step_tag;
+    let j = tag_clash(&step_tag, n);
+    if j < n {
+        return refused(TAG_FAULT, steps[j] as usize);
+    }
+    let bench = job.bench;
+    let shop = job.shop;
+    let k = bench_clash(&bench, &shop, p);
+    if k < p {
+        return refused(BENCH_FAULT, people[k] as usize);
+    }
+    let c = first_loose(marks, cards);
+    if c < cards {
+        return refused(LOOSE_FAULT, c);
+    }
+    Sheet {
+        reading: Reading::Readable {
+            people: p,
+            steps: n,
+            rules: r,
+        },
+        job,
+    }
+}
+
+// The late permitted bits and the rules chain: reads on when the steps are listed.
+fn after_steps(
+    s: &[u8],
+    cards: usize,
+    marks: &mut [bool; 141],
+    people: &[u8; 64],
+    p: usize,
+    steps: &[u8; 64],
+    n: usize,
+) -> Sheet
+    requires { ⌜ Listing (now s) (now people) p × Listing (now s) (now steps) n × (n ≤ 12) × Marking (now s) cards (now marks) (λ c. member c (take p (now people)) || member c (take n (now steps))) ⌝ }
+    ensures { λ a. ⌜ a ≡ answer (now (s .entry)) (stepsRead (now (s .entry)) cards (take p (now (people .entry))) (take n (now (steps .entry)))) ⌝ }
+{
+    if n == 0 {
+        return refused(COUNT_FAULT, 0);
+    }
+    let late = first_late(s, people, p, n);
+    if late < p {
+        return refused(FIELD_FAULT, people[late] as usize);
+    }
+    let mut rules = [0u8; 64];
+    let first = word(s, 0, 8);
+    let ended = walk_chain(s, cards, RULE_KIND, n, MOST_RULES, first, marks, &mut rules);
+    match ended {
+        Ended::Refused(refusal, card) => refused(refusal, card),
+        Ended::Listed(r) => after_rules(s, cards, marks, people, p, steps, n, &rules, r),
+    }
+}
+
+// The steps chain: reads on when the people are listed.
+fn after_people(
+    s: &[u8],
+    cards: usize,
+    marks: &mut [bool; 141],
+    people: &[u8; 64],
+    p: usize,
+) -> Sheet
+    requires { ⌜ Listing (now s) (now people) p × Marking (now s) cards (now marks) (λ c. member c (take p (now people))) ⌝ }
+    ensures { λ a. ⌜ a ≡ answer (now (s .entry)) (peopleRead (now (s .entry)) cards (take p (now (people .entry)))) ⌝ }
+{
+    if p == 0 {
+        return refused(COUNT_FAULT, 0);
+    }
+    let mut steps = [0u8; 64];
+    let first = word(s, 0, 6);
+    let ended = walk_chain(s, cards, STEP_KIND, 0, MOST_STEPS, first, marks, &mut steps);
+    match ended {
+        Ended::Refused(refusal, card) => refused(refusal, card),
+        Ended::Listed(n) => after_steps(s, cards, marks, people, p, &steps, n),
+    }
+}
+
+// The people chain, and all that follows it.
+pub fn read_people(s: &[u8], cards: usize) -> Sheet
+    requires { ⌜ (16 * cards ≤ length (now s)) × (0 < cards) × (cards ≤ 141) ⌝ }
+    ensures { λ a. ⌜ a ≡ answer (now (s .entry)) (readPeople (now (s .entry)) cards) ⌝ }
+{
+    let mut marks = [false; 141];
+    let mut people = [0u8; 64];
+    let first = word(s, 0, 4);
+    let ended = walk_chain(
+        s,
+        cards,
+        PERSON_KIND,
+        0,
+        MOST_PEOPLE,
+        first,
+        &mut marks,
+        &mut people,
+    );
+    match ended {
+        Ended::Refused(refusal, card) => refused(refusal, card),
+        Ended::Listed(p) => after_people(s, cards, &mut marks, &people, p),
+    }
+}

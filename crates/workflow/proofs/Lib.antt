@@ -1,0 +1,10 @@
+pub mod Counts
+pub mod Occurs
+pub mod Valid
+pub mod Rules
+pub mod Nested
+pub mod Independent
+pub mod Order
+pub mod Lists
+pub mod First
+pub mod Examples

@@ -1,0 +1,87 @@
+-- The tests say what the records say, and what validity depends on. Assumes nothing.
+use mathlib.Core.Bool.{true, false, _&&_}
+use mathlib.Core.Path.{_≡_, subst, ap}
+use Prim.Native.Nat.{ℕ, _<_}
+use lib.Dec.{ltb}
+use borrow.Author.Tests.{eqb-true, eq-eqb, leb-true, le-leb, ltb-true, lt-ltb}
+use Rattle.bits.specs.Below.{all}
+use Rattle.bits.proofs.Below.{true-false, all-at, all-of, and-left, and-right}
+use Rattle.bits.proofs.Counting.{and-of}
+use Rattle.workflow.specs.Problem.{Kind, Rule, Job, May, Plan, Agree, same, different, atMost, atLeast, classCount, Asks, asks, Met, met, Valid, authorisedTest, eligibleTest, valid, Satisfiable}
+use Rattle.workflow.specs.Independent.{Alike, classesOf}
+use Rattle.workflow.proofs.Counts.{distinct-alike, distinct-cong}
+
+pub asks-sound : (k : Kind) (l n : ℕ) → asks k l n ≡ true → Asks k l n
+asks-sound same l n h = eqb-true n 1 h
+asks-sound different l n h = eqb-true n 2 h
+asks-sound atMost l n h = leb-true n l h
+asks-sound atLeast l n h = leb-true l n h
+
+pub asks-complete : (k : Kind) (l n : ℕ) → Asks k l n → asks k l n ≡ true
+asks-complete same l n h = eq-eqb n 1 h
+asks-complete different l n h = eq-eqb n 2 h
+asks-complete atMost l n h = le-leb n l h
+asks-complete atLeast l n h = le-leb l n h
+
+module _ (j : Job) (r : Rule) (π : Plan) where
+  pub met-sound : met j r π ≡ true → Met j r π
+  met-sound h = asks-sound (r .kind) (r .limit) (classCount j r π) h
+
+  pub met-complete : Met j r π → met j r π ≡ true
+  met-complete h = asks-complete (r .kind) (r .limit) (classCount j r π) h
+
+module _ (j : Job) (may : May) (π : Plan) where
+  pub valid-sound : valid j may π ≡ true → Valid j may π
+  unfolding valid authorisedTest eligibleTest
+  valid-sound h =
+      let a = and-left (all (j .steps) (λ s. ltb (π s) (j .people) && may s (π s))) _ h in
+      let e = and-right (all (j .steps) (λ s. ltb (π s) (j .people) && may s (π s))) _ h in
+      record {
+        within = λ s l. ltb-true _ _ (and-left (ltb (π s) (j .people)) _ (all-at (j .steps) _ a s l));
+        authorised = λ s l. and-right (ltb (π s) (j .people)) _ (all-at (j .steps) _ a s l);
+        eligible = λ i l. met-sound j (j .rule i) π (all-at (j .rules) _ e i l);
+      }
+
+  pub valid-complete : Valid j may π → valid j may π ≡ true
+  unfolding valid authorisedTest eligibleTest
+  valid-complete v =
+      and-of _ _
+      (all-of (j .steps) _ (λ s l. and-of _ _ (lt-ltb _ _ (v .within s l)) (v .authorised s l)))
+      (all-of (j .rules) _ (λ i l. met-complete j (j .rule i) π (v .eligible i l)))
+
+  pub not-valid : valid j may π ≡ false → Valid j may π → ⊥
+  not-valid h v = true-false (valid-complete v) h
+
+module _ (j : Job) (r : Rule) (π σ : Plan) where
+  -- a count depends only on which steps of the scope share a class of the level
+  pub count-alike : Alike (j .steps) (r .scope) (classesOf j (r .level) π) (classesOf j (r .level) σ) → classCount j r π ≡ classCount j r σ
+  count-alike a = distinct-alike (j .steps) (r .scope) _ _ a
+
+  -- so does whether the rule is met
+  pub met-alike : Alike (j .steps) (r .scope) (classesOf j (r .level) π) (classesOf j (r .level) σ) → Met j r π → Met j r σ
+  met-alike a m = subst (λ (n : ℕ). Asks (r .kind) (r .limit) n) (count-alike a) m
+
+  -- and it depends on the classes of the scope's steps only
+  pub met-cong : ((s : ℕ) → s < j .steps → r .scope s ≡ true → j .class (r .level) (π s) ≡ j .class (r .level) (σ s)) → Met j r π → Met j r σ
+  met-cong h m = subst (λ (n : ℕ). Asks (r .kind) (r .limit) n) (distinct-cong (j .steps) (r .scope) _ _ h) m
+
+-- validity depends on the people of the job's steps only
+pub valid-agree : (j : Job) (may : May) (π σ : Plan) → Agree (j .steps) π σ → Valid j may π → Valid j may σ
+valid-agree j may π σ a v =
+    record {
+      within = λ s l. subst (λ (p : ℕ). p < j .people) (a s l) (v .within s l);
+      authorised = λ s l. subst (λ (p : ℕ). may s p ≡ true) (a s l) (v .authorised s l);
+      eligible = λ i l. met-cong j (j .rule i) π σ (λ s b k. ap (j .class (j .rule i .level)) (a s b)) (v .eligible i l);
+    }
+
+-- more may be permitted
+pub valid-mono : (j : Job) (may more : May) (π : Plan) → ((s p : ℕ) → s < j .steps → p < j .people → may s p ≡ true → more s p ≡ true) → Valid j may π → Valid j more π
+valid-mono j may more π h v =
+    record {
+      within = v .within;
+      authorised = λ s l. h s (π s) l (v .within s l) (v .authorised s l);
+      eligible = v .eligible;
+    }
+
+pub satisfiable-mono : (j : Job) (may more : May) → ((s p : ℕ) → s < j .steps → p < j .people → may s p ≡ true → more s p ≡ true) → Satisfiable j may → Satisfiable j more
+satisfiable-mono j may more h w = (w .0, valid-mono j may more (w .0) h (w .1))

@@ -1,0 +1,125 @@
+-- The workflow satisfiability problem, as sections 2.1 to 2.3 of document 004 and "Rules and valid plans" of paper 01 have it, for any
+-- number of nested levels. Steps, people and rules are numbered from 0, levels from 1. Assumes nothing.
+use mathlib.Core.Bool.{Bool, true, false, not, _&&_}
+use mathlib.Core.Path.{_≡_}
+use Prim.Native.Nat.{ℕ, suc, _≤_, _<_}
+use lib.Dec.{eqb, leb, ltb}
+use Rattle.bits.specs.Below.{all, any, count}
+
+-- the four kinds of rules, 1 to 4 on a card
+pub data Kind : Type 0 where
+  same different atMost atLeast : Kind
+
+-- a rule counts the classes of its level over the steps of its scope
+pub record Rule : Type 0 where
+  pub kind : Kind
+  pub level : ℕ
+  pub limit : ℕ
+  pub scope : ℕ → Bool
+
+-- a job; two people are in one class of a level exactly when they have the same class number there
+pub record Job : Type 0 where
+  pub steps : ℕ
+  pub people : ℕ
+  pub levels : ℕ
+  -- of a level and a person
+  pub class : ℕ → ℕ → ℕ
+  pub rules : ℕ
+  pub rule : ℕ → Rule
+
+-- an authorisation: whether a step is permitted to a person
+abbrev pub May : Type 0
+May = ℕ → ℕ → Bool
+
+-- "A plan gives each step one person": only the steps of the job matter
+abbrev pub Plan : Type 0
+Plan = ℕ → ℕ
+
+-- two plans give the steps below n the same people
+abbrev pub Agree : ℕ → Plan → Plan → Type 0
+Agree n π σ = (s : ℕ) → s < n → π s ≡ σ s
+
+-- the classes nest: those of each level refine those of the level above, and at the last level each person is a class
+pub record Nested (j : Job) : Type 0 where
+  pub finer : (q p p′ : ℕ) → 1 ≤ q → q < j .levels → p < j .people → p′ < j .people
+      → j .class (suc q) p ≡ j .class (suc q) p′ → j .class q p ≡ j .class q p′
+  pub person : (p p′ : ℕ) → p < j .people → p′ < j .people → j .class (j .levels) p ≡ j .class (j .levels) p′ → p ≡ p′
+
+-- s is the first step of the scope that has its class, c giving the class of each step
+unfoldable pub opens : (ℕ → Bool) → (ℕ → ℕ) → ℕ → Bool
+opens scope c s = scope s && not (any s (λ t. scope t && eqb (c t) (c s)))
+
+-- the number of different classes over the steps of a scope below n: each is counted at its first step
+unfoldable pub distinct : ℕ → (ℕ → Bool) → (ℕ → ℕ) → ℕ
+distinct n scope c = count n (opens scope c)
+
+-- "the number of different classes of its level among the people given to the steps of its scope"
+abbrev pub classCount : Job → Rule → Plan → ℕ
+classCount j r π = distinct (j .steps) (r .scope) (λ s. j .class (r .level) (π s))
+
+-- how many steps the scope has
+abbrev pub scopeSize : ℕ → Rule → ℕ
+scopeSize steps r = count steps (r .scope)
+
+-- what a rule of a kind asks of its count: of kind, limit and count
+abbrev pub Asks : Kind → ℕ → ℕ → Type 0
+Asks same limit n = n ≡ 1
+Asks different limit n = n ≡ 2
+Asks atMost limit n = n ≤ limit
+Asks atLeast limit n = limit ≤ n
+
+-- the same as a test
+abbrev pub asks : Kind → ℕ → ℕ → Bool
+asks same limit n = eqb n 1
+asks different limit n = eqb n 2
+asks atMost limit n = leb n limit
+asks atLeast limit n = leb limit n
+
+-- the plan meets the rule
+abbrev pub Met : Job → Rule → Plan → Type 0
+Met j r π = Asks (r .kind) (r .limit) (classCount j r π)
+
+abbrev pub met : Job → Rule → Plan → Bool
+met j r π = asks (r .kind) (r .limit) (classCount j r π)
+
+-- "It is valid when each person is permitted the step and all rules are met"; document 004: authorized and eligible
+pub record Valid (j : Job) (may : May) (π : Plan) : Type 0 where
+  pub within : (s : ℕ) → s < j .steps → π s < j .people
+  pub authorised : (s : ℕ) → s < j .steps → may s (π s) ≡ true
+  pub eligible : (i : ℕ) → i < j .rules → Met j (j .rule i) π
+
+-- the same as tests: one of the people, and permitted, at each step; each rule
+unfoldable pub authorisedTest : Job → May → Plan → Bool
+authorisedTest j may π = all (j .steps) (λ s. ltb (π s) (j .people) && may s (π s))
+
+unfoldable pub eligibleTest : Job → Plan → Bool
+eligibleTest j π = all (j .rules) (λ i. met j (j .rule i) π)
+
+unfoldable pub valid : Job → May → Plan → Bool
+valid j may π = authorisedTest j may π && eligibleTest j π
+
+-- the job has a valid plan
+abbrev pub Satisfiable : Job → May → Type 0
+Satisfiable j may = (π : Plan) × Valid j may π
+
+-- "two steps in scope, limit 0"; "two or more steps, limit 1 to the number of steps in scope": of kind, limit and size of the scope
+abbrev pub Fits : Kind → ℕ → ℕ → Type 0
+Fits same limit size = (size ≡ 2) × (limit ≡ 0)
+Fits different limit size = (size ≡ 2) × (limit ≡ 0)
+Fits atMost limit size = (2 ≤ size) × (1 ≤ limit) × (limit ≤ size)
+Fits atLeast limit size = (2 ≤ size) × (1 ≤ limit) × (limit ≤ size)
+
+-- a rule as a readable sheet has it
+pub record RuleOk (steps levels : ℕ) (r : Rule) : Type 0 where
+  pub from : 1 ≤ r .level
+  pub to : r .level ≤ levels
+  pub fits : Fits (r .kind) (r .limit) (scopeSize steps r)
+
+-- the scope is {s, t}, as in the document's (s, s′, ∼)
+pub record Pair (steps : ℕ) (scope : ℕ → Bool) (s t : ℕ) : Type 0 where
+  pub first : s < steps
+  pub second : t < steps
+  pub differ : s ≡ t → ⊥
+  pub has-first : scope s ≡ true
+  pub has-second : scope t ≡ true
+  pub only : (k : ℕ) → k < steps → (k ≡ s → ⊥) → (k ≡ t → ⊥) → scope k ≡ false

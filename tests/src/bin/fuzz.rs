@@ -1,0 +1,131 @@
+//! Compares the program `trials` with the model on random sheets.
+
+use sheet_tests::garble::{sample, Sample};
+use sheet_tests::model::{read, text, CARD};
+use sheet_tests::random::Random;
+use sheet_tests::records;
+use std::collections::BTreeMap;
+use std::io::{BufRead, BufReader, Write};
+use std::path::PathBuf;
+use std::process::{Command, ExitCode, Stdio};
+use std::{env, fs, thread};
+
+const USAGE: &str = "usage: fuzz COUNT SEED PROGRAM";
+
+/// How many sheets one run of the program is given.
+const BATCH: usize = 1_000;
+
+/// How many failing sheets are named and saved.
+const MOST_SAVED: usize = 10;
+
+/// The program's lines for these samples, named by numbers from `start`. A last record has only `cut` bytes, and gets
+/// no line.
+fn answers(program: &str, start: usize, samples: &[Sample], cut: usize) -> std::io::Result<Vec<String>> {
+    let mut stream = Vec::new();
+    for (k, sample) in samples.iter().enumerate() {
+        records::add(&mut stream, &(start + k).to_string(), &sample.sheet);
+    }
+    let whole = stream.len();
+    records::add(&mut stream, "cut short", &[1; CARD]);
+    stream.truncate(whole + cut);
+    let mut child = Command::new(program).stdin(Stdio::piped()).stdout(Stdio::piped()).spawn()?;
+    let mut input = child.stdin.take().expect("stdin is piped");
+    let output = child.stdout.take().expect("stdout is piped");
+    // A program that stops early closes its input; the missing lines then say so.
+    let writer = thread::spawn(move || drop(input.write_all(&stream)));
+    let lines = BufReader::new(output).lines().collect();
+    writer.join().expect("the writer ends");
+    child.wait()?;
+    lines
+}
+
+/// What is wrong with the answer to a sample, if anything.
+fn fault(name: usize, sample: &Sample, line: Option<&String>) -> Option<String> {
+    let model = read(&sample.sheet);
+    if sample.job.is_some() && model.as_ref().ok() != sample.job.as_ref() {
+        return Some(format!("the model does not read a good sheet: {}", text(&model)));
+    }
+    let expected = format!("{name}: {}", text(&model));
+    match line {
+        Some(line) if *line == expected => None,
+        Some(line) => Some(format!("model '{expected}', program '{line}'")),
+        None => Some(format!("model '{expected}', program nothing")),
+    }
+}
+
+struct Tally {
+    met: BTreeMap<String, usize>,
+    passed: usize,
+    failed: usize,
+}
+
+impl Tally {
+    fn count(&mut self, sample: &Sample) {
+        let key = match read(&sample.sheet) {
+            Ok(_) => "readable".to_string(),
+            Err(refusal) => format!("refusal {:2}", refusal.number),
+        };
+        *self.met.entry(key).or_default() += 1;
+    }
+
+    fn fail(&mut self, name: &str, sample: &Sample, fault: &str) {
+        self.failed += 1;
+        if self.failed > MOST_SAVED {
+            return;
+        }
+        let path = PathBuf::from(env!("CARGO_MANIFEST_DIR")).join("target").join(name);
+        match fs::write(path, &sample.sheet) {
+            Ok(()) => println!("FAILED {fault}; saved as tests/target/{name}"),
+            Err(error) => println!("FAILED {fault}; not saved: {error}"),
+        }
+    }
+}
+
+fn run(count: usize, seed: u64, program: &str) -> std::io::Result<Tally> {
+    let mut random = Random::new(seed);
+    let mut tally = Tally { met: BTreeMap::new(), passed: 0, failed: 0 };
+    let mut done = 0;
+    while done < count {
+        let size = BATCH.min(count - done);
+        let samples: Vec<Sample> = (0..size).map(|_| sample(&mut random)).collect();
+        let lines = answers(program, done, &samples, random.below(3 + 9 + CARD))?;
+        for (k, sample) in samples.iter().enumerate() {
+            tally.count(sample);
+            match fault(done + k, sample, lines.get(k)) {
+                None => tally.passed += 1,
+                Some(fault) => tally.fail(&format!("failed-{seed}-{}.sheet", done + k), sample, &fault),
+            }
+        }
+        if lines.len() > size {
+            return Err(std::io::Error::other("the program wrote too many lines"));
+        }
+        done += size;
+    }
+    Ok(tally)
+}
+
+fn main() -> ExitCode {
+    let args: Vec<String> = env::args().skip(1).collect();
+    let (Some(count), Some(seed), Some(program)) =
+        (args.first().and_then(|a| a.parse().ok()), args.get(1).and_then(|a| a.parse().ok()), args.get(2))
+    else {
+        eprintln!("{USAGE}");
+        return ExitCode::from(2);
+    };
+    println!("seed {seed}");
+    let tally = match run(count, seed, program) {
+        Ok(tally) => tally,
+        Err(error) => {
+            eprintln!("{program}: {error}");
+            return ExitCode::from(2);
+        }
+    };
+    for (key, times) in &tally.met {
+        println!("{key}: {times}");
+    }
+    println!("{} passed, {} failed", tally.passed, tally.failed);
+    if tally.failed > 0 {
+        return ExitCode::FAILURE;
+    }
+    ExitCode::SUCCESS
+}

@@ -1,0 +1,84 @@
+//! Random jobs that keep every bound of the paper, and their sheets.
+
+use crate::builder::{lay, lay_at, person, rule, step, Draft};
+use crate::model::{Job, Rule, MOST_PEOPLE, MOST_RULES, MOST_STEPS};
+use crate::random::Random;
+use std::collections::{HashMap, HashSet};
+
+/// A size up to `most`, mostly small, sometimes the largest.
+fn size(random: &mut Random, least: usize, most: usize) -> usize {
+    match random.below(8) {
+        0 => most,
+        1 => random.within(least, most),
+        _ => random.within(least, most.min(6)),
+    }
+}
+
+/// Different tags, small ones or any.
+fn tags(random: &mut Random, count: usize) -> Vec<u32> {
+    let small = random.once_in(2);
+    let mut met = HashSet::new();
+    let mut tags = vec![];
+    while tags.len() < count {
+        let tag = if small { random.within(1, 200) as u32 } else { random.bits() as u32 };
+        if tag != 0 && met.insert(tag) {
+            tags.push(tag);
+        }
+    }
+    tags
+}
+
+/// The mask of `size` of `steps` steps.
+fn scope(random: &mut Random, steps: usize, size: usize) -> u16 {
+    let chosen = random.order(steps);
+    chosen[..size].iter().map(|s| 1 << (s - 1)).sum()
+}
+
+fn random_rule(random: &mut Random, steps: usize) -> Rule {
+    let kind = random.within(1, 4) as u8;
+    let level = random.within(1, 3) as u8;
+    if kind <= 2 {
+        return rule(kind, level, 0, scope(random, steps, 2));
+    }
+    let wide = random.within(2, steps);
+    rule(kind, level, random.within(1, wide) as u8, scope(random, steps, wide))
+}
+
+/// A job of the given size that keeps every field's bounds where the size does.
+pub fn job_of(random: &mut Random, people: usize, steps: usize, rules: usize) -> Job {
+    let known = steps.min(MOST_STEPS);
+    let mut shops: HashMap<u16, u16> = HashMap::new();
+    let benches = random.within(1, 70);
+    let person_tags = tags(random, people);
+    let people = person_tags
+        .into_iter()
+        .map(|tag| {
+            let bench = random.within(1, benches) as u16;
+            let shop = random.within(1, 5) as u16;
+            let shop = *shops.entry(bench).or_insert(shop);
+            person(tag, shop, bench, random.below(1 << known) as u16)
+        })
+        .collect();
+    let rules = if known < 2 { 0 } else { rules };
+    Job {
+        people,
+        steps: tags(random, steps).into_iter().map(step).collect(),
+        rules: (0..rules).map(|_| random_rule(random, known)).collect(),
+    }
+}
+
+pub fn good_job(random: &mut Random) -> Job {
+    let people = size(random, 1, MOST_PEOPLE);
+    let steps = size(random, 1, MOST_STEPS);
+    let rules = size(random, 0, MOST_RULES);
+    job_of(random, people, steps, rules)
+}
+
+/// The job's sheet, its cards in some order; now and then in that of the chains.
+pub fn laid(random: &mut Random, job: &Job) -> Draft {
+    if random.once_in(4) {
+        return lay(job);
+    }
+    let cards = job.people.len() + job.steps.len() + job.rules.len();
+    lay_at(job, &random.order(cards))
+}
