@@ -2,3 +2,4 @@ pub mod Below
 pub mod Counting
 pub mod Ones
 pub mod SetLaws
+pub mod Scan

@@ -63,6 +63,6 @@ unfolding firstPlan tryAll firstOf valid authorisedTest eligibleTest distinct op
 w-plan = refl
 
 -- "The planning program prints, for sheet W": 10 101, 20 101, 30 102
-pub w-crew : crewTags jobW (0 ∷ 0 ∷ 1 ∷ []) 3 ≡ 10 ∷ 101 ∷ 20 ∷ 101 ∷ 30 ∷ 102 ∷ []
+pub w-crew : crewTags (jobW .«step_tag») (jobW .«person_tag») (0 ∷ 0 ∷ 1 ∷ []) 3 ≡ 10 ∷ 101 ∷ 20 ∷ 101 ∷ 30 ∷ 102 ∷ []
 unfolding crewTags jobOf table
 w-crew = refl

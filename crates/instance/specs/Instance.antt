@@ -31,6 +31,7 @@ abbrev pub mayOf : sheet.Job → May
 mayOf j s p = hasBit (getD (j .permitted) p 0) s
 
 -- "step tag then person tag, steps in chain order": of the first n steps of a plan
-unfoldable pub crewTags : sheet.Job → List ℕ → ℕ → List ℕ
-crewTags j plan zero = []
-crewTags j plan (suc n) = crewTags j plan n ++ (getD (j .«step_tag») n 0 ∷ getD (j .«person_tag») (getD plan n 0) 0 ∷ [])
+unfoldable pub crewTags : List ℕ → List ℕ → List ℕ → ℕ → List ℕ
+crewTags stepTags personTags plan zero = []
+crewTags stepTags personTags plan (suc n) =
+    crewTags stepTags personTags plan n ++ getD stepTags n 0 ∷ getD personTags (getD plan n 0) 0 ∷ []

@@ -1,5 +1,4 @@
 pub mod Fill
-pub mod Scan
 pub mod Tests
 pub mod Checked
 pub mod Arrays

@@ -21,7 +21,7 @@ use Rattle.sheet.specs.Answer.{answer, jobOf, table, sheetOf}
 use Rattle.sheet.specs.Readable.{ReadableJob, ReadSheet}
 use Rattle.sheet.specs.declared.Reading.the-variants.{Readable}
 use Rattle.sheet.proofs.Chains.{chains}
-use Rattle.sheet.proofs.Fill.{getD-table}
+use Rattle.sheet.proofs.Fill.{getD-table, length-table}
 use Rattle.sheet.proofs.Passes.{Passes, sheet-passes}
 
 -- a set without bits from n on is below 2 ^ n
@@ -128,6 +128,18 @@ module _ (s people steps rules : List ℕ) (n : ℕ) (p : Passes s n people step
         steps-some = omega arith;
         steps-most = c .steps-chain .short;
         rules-most = c .rules-chain .short;
+        sized =
+            record {
+              person-tag = length-table 64 (tagOf s) people (c .people-chain .short);
+              step-tag = length-table 12 (tagOf s) steps (c .steps-chain .short);
+              shop = length-table 64 (shopOf s) people (c .people-chain .short);
+              bench = length-table 64 (benchOf s) people (c .people-chain .short);
+              permitted = length-table 64 (permittedOf s) people (c .people-chain .short);
+              scope = length-table 64 (scopeOf s) rules (c .rules-chain .short);
+              kind = length-table 64 (ruleKindOf s) rules (c .rules-chain .short);
+              level = length-table 64 (levelOf s) rules (c .rules-chain .short);
+              limit = length-table 64 (limitOf s) rules (c .rules-chain .short);
+            };
         person = λ k l.
             let t = person-tests s (getD people k 0) (card-fields k l) in
             record {

@@ -5,8 +5,6 @@ use mathlib.Core.Path.{_≡_}
 use Prim.Native.Nat.{ℕ, _+_, _*_, _<_, _≤_}
 use lib.Dec.{eqb}
 use lib.ListN.{length, getD}
-use Rattle.sheet.specs.declared.Reading.{Reading}
-use Rattle.sheet.specs.declared.Reading.the-variants.{Readable, Refused}
 
 -- the first count entries of the array are cards of the sheet
 pub record Listing (s list : List ℕ) (count : ℕ) : Type 0 where
@@ -29,8 +27,3 @@ equalAt tags j k = eqb (getD tags j 0) (getD tags k 0)
 -- one bench with two shops
 abbrev pub movedAt : List ℕ → List ℕ → ℕ → ℕ → Bool
 movedAt benches shops j k = equalAt benches j k && not (equalAt shops j k)
-
--- the refusal and the card of a reading are small enough for its number
-abbrev pub Numbered : Reading → Type 0
-Numbered (Readable people steps rules) = Unit {0}
-Numbered (Refused f c) = (f < 256) × (c < 256)

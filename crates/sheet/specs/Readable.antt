@@ -43,6 +43,18 @@ pub record RuleOk (steps : ℕ) (j : Job) (i : ℕ) : Type 0 where
   -- the kind, and what limit and size of the scope it may have
   pub limit : limitOk (getD (j .«rule_kind») i 0) (getD (j .«rule_limit») i 0) (scopeSize (getD (j .«rule_scope») i 0)) ≡ true
 
+-- the arrays have their sizes
+pub record Sized (j : Job) : Type 0 where
+  pub person-tag : length (j .«person_tag») ≡ 64
+  pub step-tag : length (j .«step_tag») ≡ 12
+  pub shop : length (j .shop) ≡ 64
+  pub bench : length (j .bench) ≡ 64
+  pub permitted : length (j .permitted) ≡ 64
+  pub scope : length (j .«rule_scope») ≡ 64
+  pub kind : length (j .«rule_kind») ≡ 64
+  pub level : length (j .«rule_level») ≡ 64
+  pub limit : length (j .«rule_limit») ≡ 64
+
 -- a job as a readable sheet gives it
 pub record ReadableJob (people steps rules : ℕ) (j : Job) : Type 0 where
   pub people-some : 1 ≤ people
@@ -50,6 +62,7 @@ pub record ReadableJob (people steps rules : ℕ) (j : Job) : Type 0 where
   pub steps-some : 1 ≤ steps
   pub steps-most : steps ≤ 12
   pub rules-most : rules ≤ 64
+  pub sized : Sized j
   pub person : (p : ℕ) → p < people → PersonOk steps j p
   pub step-tag : (t : ℕ) → t < steps → 0 < getD (j .«step_tag») t 0
   pub rule : (i : ℕ) → i < rules → RuleOk steps j i

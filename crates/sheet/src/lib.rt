@@ -1,18 +1,17 @@
 // The card reader: any bytes at all become a job or one numbered refusal with the card concerned.
 ghost use mathlib.Core.Path.{_≡_};
-ghost use Rattle.sheet.specs.Answer.{sheetOf, numberOf};
-ghost use Rattle.sheet.specs.Cards.{Numbered};
+ghost use Rattle.sheet.specs.Answer.{sheetOf};
 ghost use Rattle.sheet.specs.Read.{lengthOk};
 use card::CARD;
 use card::fields::header_ok;
 use read::read_people;
 use read::refused;
 
-pub mod clash;
-pub mod late;
-pub mod loose;
-pub mod read;
-pub mod tables;
+mod clash;
+mod late;
+mod loose;
+mod read;
+mod tables;
 
 pub const MOST_PEOPLE: usize = 64;
 
@@ -84,19 +83,4 @@ pub fn read_sheet(sheet: &[u8]) -> Sheet
         return refused(HEADER_FAULT, 0);
     }
     read_people(sheet, cards)
-}
-
-// The number that a call returns for a reading: 0, or refusal × 256 + card.
-pub fn number(reading: Reading) -> u32
-    requires { ⌜ Numbered reading ⌝ }
-    ensures { λ r. ⌜ r ≡ numberOf reading ⌝ }
-{
-    match reading {
-        Reading::Readable {
-            people: _,
-            steps: _,
-            rules: _,
-        } => 0,
-        Reading::Refused { refusal, card } => refusal * 256 + card as u32,
-    }
 }

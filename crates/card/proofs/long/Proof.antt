@@ -1,3 +1,4 @@
+-- `card::long` meets its contract: two words side by side. Assumes nothing.
 use Rattle.bits.specs.Word.{wordAt}
 use native.Mathlib.Omega.{arith}
 use denote.Ref.{now}
@@ -6,31 +7,22 @@ use mathlib.Core.Path.{_≡_, ap}
 use borrow.Author.Needs.{needs}
 use Rattle.card.proofs.long.Statement.{statement}
 use Rattle.card.proofs.long.Tie as tie
-use Rattle.card.proofs.long.Reads as reads
-use Rattle.card.proofs.long.Lts as lts
-use Rattle.card.proofs.word.Reads as word-reads
 
--- src/lib.rt:33:5
 word-requires : tie.Need-word-requires
 word-requires c κs = search needs
 
--- src/lib.rt:33:46
 add-word : tie.Need-add-word
 add-word c = search needs
 
--- src/lib.rt:33:32
 word-requires-2 : tie.Need-word-requires-2
 word-requires-2 c κs = search needs
 
--- src/lib.rt:33:24
 mul-result : tie.Need-mul-result
 mul-result c = search needs
 
--- src/lib.rt:33:5
 add-result : tie.Need-add-result
 add-result c = search needs
 
--- src/lib.rt:29:1
 returns : tie.Need-returns
 returns c =
     let a = c .before .before .before .args in

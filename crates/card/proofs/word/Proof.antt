@@ -1,3 +1,4 @@
+-- `card::word` meets its contract: two bytes side by side. Assumes nothing.
 use Rattle.bits.specs.Word.{byteAt}
 use native.Mathlib.Omega.{arith}
 use denote.Ref.{now}
@@ -6,31 +7,22 @@ use mathlib.Core.Path.{_≡_, ap}
 use borrow.Author.Needs.{needs}
 use Rattle.card.proofs.word.Statement.{statement}
 use Rattle.card.proofs.word.Tie as tie
-use Rattle.card.proofs.word.Reads as reads
-use Rattle.card.proofs.word.Lts as lts
-use Rattle.card.proofs.byte.Reads as byte-reads
 
--- src/lib.rt:25:5
 byte-requires : tie.Need-byte-requires
 byte-requires c κs = search needs
 
--- src/lib.rt:25:44
 add-byte : tie.Need-add-byte
 add-byte c = search needs
 
--- src/lib.rt:25:30
 byte-requires-2 : tie.Need-byte-requires-2
 byte-requires-2 c κs = search needs
 
--- src/lib.rt:25:24
 mul-result : tie.Need-mul-result
 mul-result c = search needs
 
--- src/lib.rt:25:5
 add-result : tie.Need-add-result
 add-result c = search needs
 
--- src/lib.rt:21:1
 returns : tie.Need-returns
 returns c =
     let a = c .before .before .before .args in

@@ -9,10 +9,6 @@ use Rattle.chain.specs.Answer.{chainOf, marked}
 use Rattle.chain.proofs.Going.{Going, going-start, going-end, going-index, going-fault, going-room, going-next}
 use Rattle.chain.proofs.walk_chain.Statement.{statement}
 use Rattle.chain.proofs.walk_chain.Tie as tie
-use Rattle.chain.proofs.walk_chain.Reads as reads
-use Rattle.chain.proofs.walk_chain.Lts as lts
-use Rattle.card.proofs.word.Reads as word-reads
-use Rattle.chain.proofs.fault_at.Reads as fault-at-reads
 
 abbrev Inv-loop : tie.InvT-loop
 Inv-loop s cards kind steps most first marks₀ list₀ taken₀ holder₀ at₀ marks list taken holder at =

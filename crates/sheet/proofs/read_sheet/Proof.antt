@@ -5,42 +5,28 @@ use Rattle.sheet.proofs.Order.{bad-length, long-enough, bad-header, rea
 use borrow.Author.Needs.{needs}
 use Rattle.sheet.proofs.read_sheet.Statement.{statement}
 use Rattle.sheet.proofs.read_sheet.Tie as tie
-use Rattle.sheet.proofs.read_sheet.Reads as reads
-use Rattle.sheet.proofs.read_sheet.Lts as lts
-use Rattle.card.proofs.fields.header_ok.Reads as header-ok-reads
-use Rattle.sheet.proofs.length_ok.Reads as length-ok-reads
-use Rattle.sheet.proofs.read.read_people.Reads as read-people-reads
-use Rattle.sheet.proofs.read.refused.Reads as refused-reads
 
--- src/lib.rt:78:9
 length-ok-requires : tie.Need-length-ok-requires
 length-ok-requires c κs = search needs
 
--- src/lib.rt:79:9
 refused-requires : tie.Need-refused-requires
 refused-requires c κs = search needs
 
--- src/lib.rt:79:9
 returns : tie.Need-returns
 returns c = bad-length _ _ (not-true _ (c .before .if1 .taken)) (c .before .before .length-ok .ensures) (c .refused .ensures)
 
--- src/lib.rt:82:9
 header-ok-requires : tie.Need-header-ok-requires
 header-ok-requires c κs = long-enough (now (c .before .before .before .args .sheet)) _ (not-false _ (c .if1 .left)) (c .before .length-ok .ensures) .0
 
--- src/lib.rt:83:9
 refused-requires-2 : tie.Need-refused-requires-2
 refused-requires-2 c κs = search needs
 
--- src/lib.rt:83:9
 returns-2 : tie.Need-returns-2
 returns-2 c = bad-header _ _ (not-false _ (c .before .before .before .if1 .left)) (c .before .before .before .before .length-ok .ensures) _ (not-true _ (c .before .if2 .taken)) (c .before .before .header-ok .ensures) (c .refused2 .ensures)
 
--- src/lib.rt:85:5
 read-people-requires : tie.Need-read-people-requires
 read-people-requires c κs = long-enough (now (c .before .before .before .before .before .args .sheet)) _ (not-false _ (c .before .before .if1 .left)) (c .before .before .before .length-ok .ensures) .1
 
--- src/lib.rt:74:1
 returns-3 : tie.Need-returns-3
 returns-3 c = read-on _ _ (not-false _ (c .before .before .before .if1 .left)) (c .before .before .before .before .length-ok .ensures) _ (not-false _ (c .before .if2 .left)) (c .before .before .header-ok .ensures) (c .read-people .ensures)
 

@@ -1,10 +1,8 @@
+-- `card::fields::limit_ok` meets its contract: the code is the definition's expression. Assumes nothing.
 use Rattle.card.specs.Fields.{limitOk}
 use Rattle.card.proofs.fields.limit_ok.Statement.{statement}
 use Rattle.card.proofs.fields.limit_ok.Tie as tie
-use Rattle.card.proofs.fields.limit_ok.Reads as reads
-use Rattle.card.proofs.fields.limit_ok.Lts as lts
 
--- src/fields.rt:48:1
 returns : tie.Need-returns
 unfolding limitOk
 returns c = cc

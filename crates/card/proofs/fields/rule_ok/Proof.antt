@@ -1,52 +1,36 @@
+-- `card::fields::rule_ok` meets its contract: the code is the definition's expression, over the bytes read. Assumes nothing.
 use Rattle.card.specs.Fields.{ruleOk}
 use borrow.Author.Needs.{needs}
 use Rattle.card.proofs.fields.rule_ok.Statement.{statement}
 use Rattle.card.proofs.fields.rule_ok.Tie as tie
-use Rattle.card.proofs.fields.rule_ok.Reads as reads
-use Rattle.card.proofs.fields.rule_ok.Lts as lts
-use Rattle.card.proofs.byte.Reads as byte-reads
-use Rattle.card.proofs.fields.limit_ok.Reads as limit-ok-reads
-use Rattle.card.proofs.fields.scope_size.Reads as scope-size-reads
-use Rattle.card.proofs.long.Reads as long-reads
-use Rattle.card.proofs.word.Reads as word-reads
 
--- src/fields.rt:67:9
 byte-requires : tie.Need-byte-requires
 byte-requires c κs = search needs
 
--- src/fields.rt:68:9
 word-requires : tie.Need-word-requires
 word-requires c κs = search needs
 
--- src/fields.rt:69:14
 byte-requires-2 : tie.Need-byte-requires-2
 byte-requires-2 c κs = search needs
 
--- src/fields.rt:69:32
 byte-requires-3 : tie.Need-byte-requires-3
 byte-requires-3 c κs = search needs
 
--- src/fields.rt:69:50
 scope-size-requires : tie.Need-scope-size-requires
 scope-size-requires c κs = search needs
 
--- src/fields.rt:69:5
 limit-ok-requires : tie.Need-limit-ok-requires
 limit-ok-requires c κs = search needs
 
--- src/fields.rt:71:12
 shr-result : tie.Need-shr-result
 shr-result c = search needs
 
--- src/fields.rt:72:12
 long-requires : tie.Need-long-requires
 long-requires c κs = search needs
 
--- src/fields.rt:73:12
 long-requires-2 : tie.Need-long-requires-2
 long-requires-2 c κs = search needs
 
--- src/fields.rt:63:1
 returns : tie.Need-returns
 unfolding ruleOk
 returns c =

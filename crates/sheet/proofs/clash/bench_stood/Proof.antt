@@ -5,11 +5,9 @@ use Prim.Native.Nat.{_-_, _≤_}
 use mathlib.Core.Path.{_≡_, refl}
 use Rattle.bits.specs.Below.{any}
 use Rattle.sheet.specs.Cards.{movedAt}
-use Rattle.sheet.proofs.Scan.{any-zero, any-more, any-all}
+use Rattle.bits.proofs.Scan.{any-zero, any-more, any-all}
 use Rattle.sheet.proofs.clash.bench_stood.Statement.{statement}
 use Rattle.sheet.proofs.clash.bench_stood.Tie as tie
-use Rattle.sheet.proofs.clash.bench_stood.Reads as reads
-use Rattle.sheet.proofs.clash.bench_stood.Lts as lts
 
 abbrev Inv-loop : tie.InvT-loop
 Inv-loop benches shops k bench shop found₀ j₀ found j = (j ≤ k) × (found ≡ any j (λ i. movedAt benches shops i k))
@@ -17,55 +15,42 @@ Inv-loop benches shops k bench shop found₀ j₀ found j = (j ≤ k) × (found 
 abbrev μ-loop : tie.MeasureT-loop
 μ-loop benches shops k bench shop found₀ j₀ found j = k - j
 
--- src/clash.rt:44:17
 mul-bench : tie.Need-mul-bench Inv-loop μ-loop
 mul-bench c = search needs
 
--- src/clash.rt:44:17
 element-copy-out-bench : tie.Need-element-copy-out-bench Inv-loop μ-loop
 element-copy-out-bench c = search needs
 
--- src/clash.rt:45:16
 mul-shop : tie.Need-mul-shop Inv-loop μ-loop
 mul-shop c = search needs
 
--- src/clash.rt:45:16
 element-copy-out-shop : tie.Need-element-copy-out-shop Inv-loop μ-loop
 element-copy-out-shop c = search needs
 
--- src/clash.rt:48:5
 loop-holds : tie.Need-loop-holds Inv-loop μ-loop
 loop-holds c = (omega arith, any-zero _)
 
--- src/clash.rt:49:27
 mul-found : tie.Need-mul-found Inv-loop μ-loop
 mul-found c = search needs
 
--- src/clash.rt:49:27
 element-copy-out-found : tie.Need-element-copy-out-found Inv-loop μ-loop
 element-copy-out-found c = search needs
 
--- src/clash.rt:49:51
 mul-found-2 : tie.Need-mul-found-2 Inv-loop μ-loop
 mul-found-2 c = search needs
 
--- src/clash.rt:49:51
 element-copy-out-found-2 : tie.Need-element-copy-out-found-2 Inv-loop μ-loop
 element-copy-out-found-2 c = search needs
 
--- src/clash.rt:50:9
 add-j : tie.Need-add-j Inv-loop μ-loop
 add-j c = search needs
 
--- src/clash.rt:48:5
 loop-less : tie.Need-loop-less Inv-loop μ-loop
 loop-less c = search needs
 
--- src/clash.rt:48:5
 loop-again : tie.Need-loop-again Inv-loop μ-loop
 loop-again c = (omega arith, any-more _ _ _ _ (c .before .before .before .loop .inv .1) refl)
 
--- src/clash.rt:40:1
 returns : tie.Need-returns Inv-loop μ-loop
 returns c = any-all _ _ _ _ (c .before .loop .inv .0) (c .loop-test .left) (c .before .loop .inv .1)
 

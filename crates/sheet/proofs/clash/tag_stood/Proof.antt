@@ -5,11 +5,9 @@ use Prim.Native.Nat.{_-_, _≤_}
 use mathlib.Core.Path.{_≡_, refl}
 use Rattle.bits.specs.Below.{any}
 use Rattle.sheet.specs.Cards.{equalAt}
-use Rattle.sheet.proofs.Scan.{any-zero, any-more, any-all}
+use Rattle.bits.proofs.Scan.{any-zero, any-more, any-all}
 use Rattle.sheet.proofs.clash.tag_stood.Statement.{statement}
 use Rattle.sheet.proofs.clash.tag_stood.Tie as tie
-use Rattle.sheet.proofs.clash.tag_stood.Reads as reads
-use Rattle.sheet.proofs.clash.tag_stood.Lts as lts
 
 abbrev Inv-loop : tie.InvT-loop
 Inv-loop tags k tag found₀ j₀ found j = (j ≤ k) × (found ≡ any j (λ i. equalAt tags i k))
@@ -17,39 +15,30 @@ Inv-loop tags k tag found₀ j₀ found j = (j ≤ k) × (found ≡ any j (λ i.
 abbrev μ-loop : tie.MeasureT-loop
 μ-loop tags k tag found₀ j₀ found j = k - j
 
--- src/clash.rt:14:15
 mul-tag : tie.Need-mul-tag Inv-loop μ-loop
 mul-tag c = search needs
 
--- src/clash.rt:14:15
 shared-slice-read-tag : tie.Need-shared-slice-read-tag Inv-loop μ-loop
 shared-slice-read-tag c = search needs
 
--- src/clash.rt:17:5
 loop-holds : tie.Need-loop-holds Inv-loop μ-loop
 loop-holds c = (omega arith, any-zero _)
 
--- src/clash.rt:18:26
 mul-found : tie.Need-mul-found Inv-loop μ-loop
 mul-found c = search needs
 
--- src/clash.rt:18:26
 shared-slice-read-found : tie.Need-shared-slice-read-found Inv-loop μ-loop
 shared-slice-read-found c = search needs
 
--- src/clash.rt:19:9
 add-j : tie.Need-add-j Inv-loop μ-loop
 add-j c = search needs
 
--- src/clash.rt:17:5
 loop-less : tie.Need-loop-less Inv-loop μ-loop
 loop-less c = search needs
 
--- src/clash.rt:17:5
 loop-again : tie.Need-loop-again Inv-loop μ-loop
 loop-again c = (omega arith, any-more _ _ _ _ (c .before .before .loop .inv .1) refl)
 
--- src/clash.rt:10:1
 returns : tie.Need-returns Inv-loop μ-loop
 returns c = any-all _ _ _ _ (c .before .loop .inv .0) (c .loop-test .left) (c .before .loop .inv .1)
 

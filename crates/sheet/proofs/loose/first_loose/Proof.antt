@@ -1,17 +1,15 @@
+-- `sheet::loose::first_loose` meets its contract. The invariant: every card passed is the header or marked. Assumes nothing.
 use Rattle.sheet.specs.Read.{firstLoose}
 use Rattle.sheet.proofs.Tests.{loose-is}
--- The invariant: every card passed is the header or marked. Assumes nothing.
 use native.Mathlib.Omega.{arith}
 use Prim.Native.Nat.{ℕ, _-_, _+_, _≤_}
 use mathlib.Core.Bool.{not, _||_}
 use mathlib.Core.Path.{_≡_, refl, _∙_}
 use lib.Dec.{eqb}
 use Rattle.chain.specs.Answer.{marked}
-use Rattle.sheet.proofs.Scan.{Passed, passed-none, passed-more, passed-found, passed-all}
+use Rattle.bits.proofs.Scan.{Passed, passed-none, passed-more, passed-found, passed-all}
 use Rattle.sheet.proofs.loose.first_loose.Statement.{statement}
 use Rattle.sheet.proofs.loose.first_loose.Tie as tie
-use Rattle.sheet.proofs.loose.first_loose.Reads as reads
-use Rattle.sheet.proofs.loose.first_loose.Lts as lts
 
 abbrev Inv-loop : tie.InvT-loop
 Inv-loop marks cards last c₀ c = Passed cards (λ i. not (eqb i 0 || marked marks i)) c × (1 ≤ c) × (last + 1 ≡ cards)
@@ -19,40 +17,32 @@ Inv-loop marks cards last c₀ c = Passed cards (λ i. not (eqb i 0 || marked ma
 abbrev μ-loop : tie.MeasureT-loop
 μ-loop marks cards last c₀ c = cards - c
 
--- src/loose.rt:13:16
 sub-last : tie.Need-sub-last Inv-loop μ-loop
 sub-last c = omega arith
 
--- src/loose.rt:15:5
 loop-holds : tie.Need-loop-holds Inv-loop μ-loop
 loop-holds c = (passed-more _ _ 0 (passed-none _ _) (omega arith) refl, omega arith, omega arith)
 
--- src/loose.rt:16:13
 element-copy-out-if1 : tie.Need-element-copy-out-if1 Inv-loop μ-loop
 element-copy-out-if1 c = omega arith
 
--- src/loose.rt:17:13
 returns : tie.Need-returns Inv-loop μ-loop
 unfolding firstLoose
 returns c =
     let i = c .before .before .before .loop .inv in
     passed-found _ _ _ (i .0) (omega arith) (loose-is _ _ (i .1) ∙ c .if1 .taken)
 
--- src/loose.rt:19:9
 add-c : tie.Need-add-c Inv-loop μ-loop
 add-c c = omega arith
 
--- src/loose.rt:15:5
 loop-less : tie.Need-loop-less Inv-loop μ-loop
 loop-less c = omega arith
 
--- src/loose.rt:15:5
 loop-again : tie.Need-loop-again Inv-loop μ-loop
 loop-again c =
     let i = c .before .before .before .loop .inv in
     (passed-more _ _ _ (i .0) (omega arith) (loose-is _ _ (i .1) ∙ c .if1 .left), omega arith, omega arith)
 
--- src/loose.rt:9:1
 returns-2 : tie.Need-returns-2 Inv-loop μ-loop
 unfolding firstLoose
 returns-2 c = passed-all _ _ _ (c .before .loop .inv .0) (omega arith)

@@ -5,42 +5,28 @@ use Rattle.sheet.proofs.Order.{no-people, steps-refused, steps-listed}
 use borrow.Author.Needs.{needs}
 use Rattle.sheet.proofs.read.after_people.Statement.{statement}
 use Rattle.sheet.proofs.read.after_people.Tie as tie
-use Rattle.sheet.proofs.read.after_people.Reads as reads
-use Rattle.sheet.proofs.read.after_people.Lts as lts
-use Rattle.card.proofs.word.Reads as word-reads
-use Rattle.chain.proofs.walk_chain.Reads as walk-chain-reads
-use Rattle.sheet.proofs.read.after_steps.Reads as after-steps-reads
-use Rattle.sheet.proofs.read.refused.Reads as refused-reads
 
--- src/read.rt:142:9
 refused-requires : tie.Need-refused-requires
 refused-requires c κs = search needs
 
--- src/read.rt:142:9
 returns : tie.Need-returns
 returns c = no-people _ _ _ _ (c .before .before .before .pre .0) _ (c .before .if1 .taken) (c .refused .ensures)
 
--- src/read.rt:145:9
 word-requires : tie.Need-word-requires
 word-requires c κs = search needs
 
--- src/read.rt:146:9
 walk-chain-requires : tie.Need-walk-chain-requires
 walk-chain-requires c κs = search needs
 
--- src/read.rt:148:24
 enum-known-ended : tie.Need-enum-known-ended
 enum-known-ended c = search needs
 
--- src/read.rt:148:42
 refused-requires-2 : tie.Need-refused-requires-2
 refused-requires-2 c κs = search needs
 
--- src/read.rt:149:23
 enum-known-ended-2 : tie.Need-enum-known-ended-2
 enum-known-ended-2 c = search needs
 
--- src/read.rt:149:29
 after-steps-requires : tie.Need-after-steps-requires
 after-steps-requires c κs = (
   c .before .before .before .before .before .before .before .before .before .before .before .pre .0,
@@ -49,14 +35,12 @@ after-steps-requires c κs = (
   stage-marking _ _ _ _ _ _ _ _ (c .before .before .before .before .before .before .before .before .before .before .before .pre .1) (omega arith) _ (c .before .before .before .before .before .before .before .before .word .ensures .0) _ _ _ (c .before .before .before .before .before .walk-chain .ensures) _ (c .before .before .before .ended2 .given .1),
 )
 
--- src/read.rt:137:1
 returns-2 : tie.Need-returns-2
 returns-2 c =
     steps-refused _ _ _ _ (c .before .before .before .before .before .before .before .before .before .before .pre .0) _ (c .before .before .before .before .before .before .before .before .if1 .left) _ _
     (stage-refused _ _ _ _ _ _ _ _ (c .before .before .before .before .before .before .before .before .before .before .pre .1) (omega arith) _ (c .before .before .before .before .before .before .before .word .ensures .0) _ _ _ (c .before .before .before .before .walk-chain .ensures) _ _ (c .before .before .ended .given .1))
     (c .refused2 .ensures)
 
--- src/read.rt:137:1
 returns-3 : tie.Need-returns-3
 returns-3 c =
     steps-listed _ _ _ _ (c .before .before .before .before .before .before .before .before .before .before .before .before .pre .0) _ (c .before .before .before .before .before .before .before .before .before .before .if1 .left) _

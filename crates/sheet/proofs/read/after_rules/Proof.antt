@@ -4,39 +4,25 @@ use Rattle.sheet.proofs.Arrays.{person-tags-length, step-tags-length, b
 use borrow.Author.Needs.{needs}
 use Rattle.sheet.proofs.read.after_rules.Statement.{statement}
 use Rattle.sheet.proofs.read.after_rules.Tie as tie
-use Rattle.sheet.proofs.read.after_rules.Reads as reads
-use Rattle.sheet.proofs.read.after_rules.Lts as lts
-use Rattle.sheet.proofs.clash.bench_clash.Reads as bench-clash-reads
-use Rattle.sheet.proofs.clash.tag_clash.Reads as tag-clash-reads
-use Rattle.sheet.proofs.loose.first_loose.Reads as first-loose-reads
-use Rattle.sheet.proofs.read.fill_job.Reads as fill-job-reads
-use Rattle.sheet.proofs.read.refused.Reads as refused-reads
 
--- src/read.rt:84:9
 fill-job-requires : tie.Need-fill-job-requires
 fill-job-requires c κs = search needs
 
--- src/read.rt:86:23
 slice-aggregate-tag-clash : tie.Need-slice-aggregate-tag-clash
 slice-aggregate-tag-clash c = search needs
 
--- src/read.rt:86:9
 tag-clash-requires : tie.Need-tag-clash-requires
 tag-clash-requires c κs = person-tags-length _ _ _ _ _ _ _ (c .before .before .before .before .pre .0) (c .before .before .before .before .pre .1) (c .before .before .before .before .pre .3) (c .before .before .before .before .pre .2) _ (c .before .before .fill-job .ensures)
 
--- src/read.rt:88:35
 element-copy-out-refused : tie.Need-element-copy-out-refused
 element-copy-out-refused c = search needs
 
--- src/read.rt:88:35
 cast-refused : tie.Need-cast-refused
 cast-refused c = omega (arith, c .before .before .before .before .before .before .before .pre .0 .inside (c .before .before .tag-clash .result) (c .before .if1 .taken))
 
--- src/read.rt:88:9
 refused-requires : tie.Need-refused-requires
 refused-requires c κs = search needs
 
--- src/read.rt:88:9
 returns : tie.Need-returns
 returns c =
     refuse-person-tag
@@ -44,27 +30,21 @@ returns c =
     _ (c .before .before .before .tag-clash .ensures)
     (c .before .before .if1 .taken) _ (c .refused .ensures)
 
--- src/read.rt:91:23
 slice-aggregate-tag-clash-2 : tie.Need-slice-aggregate-tag-clash-2
 slice-aggregate-tag-clash-2 c = search needs
 
--- src/read.rt:91:9
 tag-clash-requires-2 : tie.Need-tag-clash-requires-2
 tag-clash-requires-2 c κs = step-tags-length _ _ _ _ _ _ _ (c .before .before .before .before .before .before .before .before .pre .0) (c .before .before .before .before .before .before .before .before .pre .1) (c .before .before .before .before .before .before .before .before .pre .3) (c .before .before .before .before .before .before .before .before .pre .2) _ (c .before .before .before .before .before .before .fill-job .ensures)
 
--- src/read.rt:93:35
 element-copy-out-refused-2 : tie.Need-element-copy-out-refused-2
 element-copy-out-refused-2 c = search needs
 
--- src/read.rt:93:35
 cast-refused-2 : tie.Need-cast-refused-2
 cast-refused-2 c = omega (arith, c .before .before .before .before .before .before .before .before .before .before .before .pre .1 .inside (c .before .before .tag-clash2 .result) (c .before .if2 .taken))
 
--- src/read.rt:93:9
 refused-requires-2 : tie.Need-refused-requires-2
 refused-requires-2 c κs = search needs
 
--- src/read.rt:93:9
 returns-2 : tie.Need-returns-2
 returns-2 c =
     refuse-step-tag
@@ -72,23 +52,18 @@ returns-2 c =
     _ (c .before .before .before .before .before .before .before .tag-clash .ensures) (c .before .before .before .before .before .before .if1 .left) _ (c .before .before .before .tag-clash2 .ensures)
     (c .before .before .if2 .taken) _ (c .refused2 .ensures)
 
--- src/read.rt:97:9
 bench-clash-requires : tie.Need-bench-clash-requires
 bench-clash-requires c κs = (c .before .before .before .before .before .before .before .before .before .before .before .before .before .before .pre .0 .fits, benches-length _ _ _ _ _ _ _ (c .before .before .before .before .before .before .before .before .before .before .before .before .before .before .pre .0) (c .before .before .before .before .before .before .before .before .before .before .before .before .before .before .pre .1) (c .before .before .before .before .before .before .before .before .before .before .before .before .before .before .pre .3) (c .before .before .before .before .before .before .before .before .before .before .before .before .before .before .pre .2) _ (c .before .before .before .before .before .before .before .before .before .before .before .before .fill-job .ensures), shops-length _ _ _ _ _ _ _ (c .before .before .before .before .before .before .before .before .before .before .before .before .before .before .pre .0) (c .before .before .before .before .before .before .before .before .before .before .before .before .before .before .pre .1) (c .before .before .before .before .before .before .before .before .before .before .before .before .before .before .pre .3) (c .before .before .before .before .before .before .before .before .before .before .before .before .before .before .pre .2) _ (c .before .before .before .before .before .before .before .before .before .before .before .before .fill-job .ensures))
 
--- src/read.rt:99:37
 element-copy-out-refused-3 : tie.Need-element-copy-out-refused-3
 element-copy-out-refused-3 c = search needs
 
--- src/read.rt:99:37
 cast-refused-3 : tie.Need-cast-refused-3
 cast-refused-3 c = omega (arith, c .before .before .before .before .before .before .before .before .before .before .before .before .before .before .before .before .before .pre .0 .inside (c .before .before .bench-clash .result) (c .before .if3 .taken))
 
--- src/read.rt:99:9
 refused-requires-3 : tie.Need-refused-requires-3
 refused-requires-3 c κs = search needs
 
--- src/read.rt:99:9
 returns-3 : tie.Need-returns-3
 returns-3 c =
     refuse-bench
@@ -96,15 +71,12 @@ returns-3 c =
     _ (c .before .before .before .before .before .before .before .before .before .before .before .before .before .tag-clash .ensures) (c .before .before .before .before .before .before .before .before .before .before .before .before .if1 .left) _ (c .before .before .before .before .before .before .before .before .before .tag-clash2 .ensures) (c .before .before .before .before .before .before .before .before .if2 .left) _ (c .before .before .before .bench-clash .ensures)
     (c .before .before .if3 .taken) _ (c .refused3 .ensures)
 
--- src/read.rt:101:9
 first-loose-requires : tie.Need-first-loose-requires
 first-loose-requires c κs = search needs
 
--- src/read.rt:103:9
 refused-requires-4 : tie.Need-refused-requires-4
 refused-requires-4 c κs = search needs
 
--- src/read.rt:103:9
 returns-4 : tie.Need-returns-4
 returns-4 c =
     refuse-loose
@@ -112,7 +84,6 @@ returns-4 c =
     _ (c .before .before .before .before .before .before .before .before .before .before .before .before .before .before .tag-clash .ensures) (c .before .before .before .before .before .before .before .before .before .before .before .before .before .if1 .left) _ (c .before .before .before .before .before .before .before .before .before .before .tag-clash2 .ensures) (c .before .before .before .before .before .before .before .before .before .if2 .left) _ (c .before .before .before .before .bench-clash .ensures) (c .before .before .before .if3 .left) _ (c .before .before .first-loose .ensures)
     (c .before .if4 .taken) _ (c .refused4 .ensures)
 
--- src/read.rt:70:1
 returns-5 : tie.Need-returns-5
 returns-5 c =
     read-job

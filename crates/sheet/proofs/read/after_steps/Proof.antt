@@ -5,63 +5,43 @@ use Rattle.sheet.proofs.Order.{no-steps, late-bit, rules-refused, rules
 use borrow.Author.Needs.{needs}
 use Rattle.sheet.proofs.read.after_steps.Statement.{statement}
 use Rattle.sheet.proofs.read.after_steps.Tie as tie
-use Rattle.sheet.proofs.read.after_steps.Reads as reads
-use Rattle.sheet.proofs.read.after_steps.Lts as lts
-use Rattle.card.proofs.word.Reads as word-reads
-use Rattle.chain.proofs.walk_chain.Reads as walk-chain-reads
-use Rattle.sheet.proofs.late.first_late.Reads as first-late-reads
-use Rattle.sheet.proofs.read.after_rules.Reads as after-rules-reads
-use Rattle.sheet.proofs.read.refused.Reads as refused-reads
 
--- src/read.rt:121:9
 refused-requires : tie.Need-refused-requires
 refused-requires c κs = search needs
 
--- src/read.rt:121:9
 returns : tie.Need-returns
 returns c = no-steps _ _ _ _ (c .before .before .before .pre .0) _ _ _ (c .before .before .before .pre .1) (c .before .if1 .taken) (c .refused .ensures)
 
--- src/read.rt:123:9
 first-late-requires : tie.Need-first-late-requires
 first-late-requires c κs = search needs
 
--- src/read.rt:125:37
 element-copy-out-refused : tie.Need-element-copy-out-refused
 element-copy-out-refused c = search needs
 
--- src/read.rt:125:37
 cast-refused : tie.Need-cast-refused
 cast-refused c = omega (arith, c .before .before .before .before .before .pre .0 .inside (c .before .before .first-late .result) (c .before .if2 .taken))
 
--- src/read.rt:125:9
 refused-requires-2 : tie.Need-refused-requires-2
 refused-requires-2 c κs = search needs
 
--- src/read.rt:125:9
 returns-2 : tie.Need-returns-2
 returns-2 c = late-bit _ _ _ _ (c .before .before .before .before .before .before .pre .0) _ _ _ (c .before .before .before .before .before .before .pre .1) (c .before .before .before .before .if1 .left) _ (c .before .before .before .first-late .ensures) (c .before .before .if2 .taken) (c .refused2 .ensures)
 
--- src/read.rt:128:9
 word-requires : tie.Need-word-requires
 word-requires c κs = search needs
 
--- src/read.rt:129:9
 walk-chain-requires : tie.Need-walk-chain-requires
 walk-chain-requires c κs = search needs
 
--- src/read.rt:131:24
 enum-known-ended : tie.Need-enum-known-ended
 enum-known-ended c = search needs
 
--- src/read.rt:131:42
 refused-requires-3 : tie.Need-refused-requires-3
 refused-requires-3 c κs = search needs
 
--- src/read.rt:132:23
 enum-known-ended-2 : tie.Need-enum-known-ended-2
 enum-known-ended-2 c = search needs
 
--- src/read.rt:132:29
 after-rules-requires : tie.Need-after-rules-requires
 after-rules-requires c κs = (
   c .before .before .before .before .before .before .before .before .before .before .before .before .before .pre .0,
@@ -71,14 +51,12 @@ after-rules-requires c κs = (
   stage-marking _ _ _ _ _ _ _ _ (c .before .before .before .before .before .before .before .before .before .before .before .before .before .pre .3) (omega arith) _ (c .before .before .before .before .before .before .before .before .word .ensures .0) _ _ _ (c .before .before .before .before .before .walk-chain .ensures) _ (c .before .before .before .ended2 .given .1),
 )
 
--- src/read.rt:116:1
 returns-3 : tie.Need-returns-3
 returns-3 c =
     rules-refused _ _ _ _ (c .before .before .before .before .before .before .before .before .before .before .before .before .pre .0) _ _ _ (c .before .before .before .before .before .before .before .before .before .before .before .before .pre .1) (c .before .before .before .before .before .before .before .before .before .before .if1 .left) _ (c .before .before .before .before .before .before .before .before .before .first-late .ensures) (c .before .before .before .before .before .before .before .before .if2 .left) _ _
     (stage-refused _ _ _ _ _ _ _ _ (c .before .before .before .before .before .before .before .before .before .before .before .before .pre .3) (omega arith) _ (c .before .before .before .before .before .before .before .word .ensures .0) _ _ _ (c .before .before .before .before .walk-chain .ensures) _ _ (c .before .before .ended .given .1))
     (c .refused3 .ensures)
 
--- src/read.rt:116:1
 returns-4 : tie.Need-returns-4
 returns-4 c =
     rules-listed _ _ _ _ (c .before .before .before .before .before .before .before .before .before .before .before .before .before .before .pre .0) _ _ _ (c .before .before .before .before .before .before .before .before .before .before .before .before .before .before .pre .1) (c .before .before .before .before .before .before .before .before .before .before .before .before .if1 .left) _ (c .before .before .before .before .before .before .before .before .before .before .before .first-late .ensures) (c .before .before .before .before .before .before .before .before .before .before .if2 .left) _

@@ -1,60 +1,43 @@
+-- `sheet::read::fill_job` meets its contract: each array is its table. Assumes nothing.
 use native.Mathlib.Omega.{arith}
--- Each array is its table. Assumes nothing.
 use Rattle.sheet.specs.Answer.{jobOf}
 use borrow.Author.Needs.{needs}
 use Rattle.sheet.proofs.read.fill_job.Statement.{statement}
 use Rattle.sheet.proofs.read.fill_job.Tie as tie
-use Rattle.sheet.proofs.read.fill_job.Reads as reads
-use Rattle.sheet.proofs.read.fill_job.Lts as lts
-use Rattle.sheet.proofs.tables.bytes.Reads as bytes-reads
-use Rattle.sheet.proofs.tables.tags.Reads as tags-reads
-use Rattle.sheet.proofs.tables.words.Reads as words-reads
 
--- src/read.rt:46:24
 slice-aggregate-tags : tie.Need-slice-aggregate-tags
 slice-aggregate-tags c = search needs
 
--- src/read.rt:46:5
 tags-requires : tie.Need-tags-requires
 tags-requires c κs = search needs
 
--- src/read.rt:48:23
 slice-aggregate-tags-2 : tie.Need-slice-aggregate-tags-2
 slice-aggregate-tags-2 c = search needs
 
--- src/read.rt:48:5
 tags-requires-2 : tie.Need-tags-requires-2
 tags-requires-2 c κs = search needs
 
--- src/read.rt:49:9
 words-requires : tie.Need-words-requires
 words-requires c κs = search needs
 
--- src/read.rt:50:9
 words-requires-2 : tie.Need-words-requires-2
 words-requires-2 c κs = search needs
 
--- src/read.rt:51:9
 words-requires-3 : tie.Need-words-requires-3
 words-requires-3 c κs = search needs
 
--- src/read.rt:52:9
 words-requires-4 : tie.Need-words-requires-4
 words-requires-4 c κs = search needs
 
--- src/read.rt:53:9
 bytes-requires : tie.Need-bytes-requires
 bytes-requires c κs = search needs
 
--- src/read.rt:54:9
 bytes-requires-2 : tie.Need-bytes-requires-2
 bytes-requires-2 c κs = search needs
 
--- src/read.rt:55:9
 bytes-requires-3 : tie.Need-bytes-requires-3
 bytes-requires-3 c κs = (c .before .before .before .before .before .before .before .before .before .before .before .before .before .pre .3, omega arith)
 
--- src/read.rt:41:1
 returns : tie.Need-returns
 unfolding jobOf
 returns c =

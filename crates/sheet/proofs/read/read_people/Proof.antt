@@ -7,48 +7,34 @@ use Rattle.card.specs.Layout.{personKind}
 use borrow.Author.Needs.{needs}
 use Rattle.sheet.proofs.read.read_people.Statement.{statement}
 use Rattle.sheet.proofs.read.read_people.Tie as tie
-use Rattle.sheet.proofs.read.read_people.Reads as reads
-use Rattle.sheet.proofs.read.read_people.Lts as lts
-use Rattle.card.proofs.word.Reads as word-reads
-use Rattle.chain.proofs.walk_chain.Reads as walk-chain-reads
-use Rattle.sheet.proofs.read.after_people.Reads as after-people-reads
-use Rattle.sheet.proofs.read.refused.Reads as refused-reads
 
--- src/read.rt:160:9
 word-requires : tie.Need-word-requires
 word-requires c κs = search needs
 
--- src/read.rt:161:9
 walk-chain-requires : tie.Need-walk-chain-requires
 walk-chain-requires c κs = search needs
 
--- src/read.rt:163:24
 enum-known-ended : tie.Need-enum-known-ended
 enum-known-ended c = search needs
 
--- src/read.rt:163:42
 refused-requires : tie.Need-refused-requires
 refused-requires c κs = search needs
 
--- src/read.rt:164:23
 enum-known-ended-2 : tie.Need-enum-known-ended-2
 enum-known-ended-2 c = search needs
 
--- src/read.rt:164:29
 after-people-requires : tie.Need-after-people-requires
 after-people-requires c κs = (
   stage-listing _ _ _ _ _ _ _ _ (nothing-marked _ _ (c .before .before .before .before .before .before .before .before .before .before .pre .1) (c .before .before .before .before .before .before .before .before .before .before .pre .2) (c .before .before .before .before .before .before .before .before .before .before .pre .0)) (omega arith) _ (c .before .before .before .before .before .before .before .before .word .ensures .0) _ _ _ (c .before .before .before .before .before .walk-chain .ensures) _ (c .before .before .before .ended2 .given .1),
   stage-marking _ _ _ _ _ _ _ _ (nothing-marked _ _ (c .before .before .before .before .before .before .before .before .before .before .pre .1) (c .before .before .before .before .before .before .before .before .before .before .pre .2) (c .before .before .before .before .before .before .before .before .before .before .pre .0)) (omega arith) _ (c .before .before .before .before .before .before .before .before .word .ensures .0) _ _ _ (c .before .before .before .before .before .walk-chain .ensures) _ (c .before .before .before .ended2 .given .1),
 )
 
--- src/read.rt:154:1
 returns : tie.Need-returns
 returns c =
     people-refused _ _ _ _ _
     (stage-refused (now (c .before .before .before .before .before .before .before .before .before .args .s)) _ personKind 0 _ _ _ _ (nothing-marked _ _ (c .before .before .before .before .before .before .before .before .before .pre .1) (c .before .before .before .before .before .before .before .before .before .pre .2) (c .before .before .before .before .before .before .before .before .before .pre .0)) (omega arith) _ (c .before .before .before .before .before .before .before .word .ensures .0) _ _ _ (c .before .before .before .before .walk-chain .ensures) _ _ (c .before .before .ended .given .1))
     (c .refused .ensures)
 
--- src/read.rt:154:1
 returns-2 : tie.Need-returns-2
 returns-2 c =
     people-listed _ _ _ _

@@ -3,10 +3,7 @@ use mathlib.Core.Path.{refl}
 use Rattle.sheet.specs.Answer.{answer}
 use Rattle.sheet.proofs.read.refused.Statement.{statement}
 use Rattle.sheet.proofs.read.refused.Tie as tie
-use Rattle.sheet.proofs.read.refused.Reads as reads
-use Rattle.sheet.proofs.read.refused.Lts as lts
 
--- src/read.rt:21:1
 returns : tie.Need-returns
 unfolding answer
 returns c = λ s. refl

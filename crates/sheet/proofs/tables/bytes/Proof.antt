@@ -7,9 +7,6 @@ use Rattle.sheet.proofs.Fill.{Filled, filled-none, filled-more, filled-
 use Rattle.card.specs.Layout.{cardByte}
 use Rattle.sheet.proofs.tables.bytes.Statement.{statement}
 use Rattle.sheet.proofs.tables.bytes.Tie as tie
-use Rattle.sheet.proofs.tables.bytes.Reads as reads
-use Rattle.sheet.proofs.tables.bytes.Lts as lts
-use Rattle.card.proofs.byte.Reads as byte-reads
 
 abbrev Inv-loop : tie.InvT-loop
 Inv-loop s list count at out₀ k₀ out k = Filled 64 (λ c. cardByte s c at) list count out k
@@ -17,43 +14,33 @@ Inv-loop s list count at out₀ k₀ out k = Filled 64 (λ c. cardByte s c at) l
 abbrev μ-loop : tie.MeasureT-loop
 μ-loop s list count at out₀ k₀ out k = count - k
 
--- src/tables.rt:18:5
 loop-holds : tie.Need-loop-holds Inv-loop μ-loop
 loop-holds c = filled-none 64 _ _ _ _ refl
 
--- src/tables.rt:19:26
 element-copy-out-byte : tie.Need-element-copy-out-byte Inv-loop μ-loop
 element-copy-out-byte c = omega arith
 
--- src/tables.rt:19:26
 cast-byte : tie.Need-cast-byte Inv-loop μ-loop
 cast-byte c = omega (arith, c .before .before .before .before .pre .0 .inside (c .before .before .loop .k) (c .before .loop-test .taken))
 
--- src/tables.rt:19:18
 byte-requires : tie.Need-byte-requires Inv-loop μ-loop
 byte-requires c κs = omega (arith, c .before .before .before .before .pre .0 .inside (c .before .before .loop .k) (c .before .loop-test .taken))
 
--- src/tables.rt:19:18
 cast-out : tie.Need-cast-out Inv-loop μ-loop
 cast-out c = omega arith
 
--- src/tables.rt:19:9
 array-write-out : tie.Need-array-write-out Inv-loop μ-loop
 array-write-out c = omega arith
 
--- src/tables.rt:20:9
 add-k : tie.Need-add-k Inv-loop μ-loop
 add-k c = omega arith
 
--- src/tables.rt:18:5
 loop-less : tie.Need-loop-less Inv-loop μ-loop
 loop-less c = omega arith
 
--- src/tables.rt:18:5
 loop-again : tie.Need-loop-again Inv-loop μ-loop
 loop-again c = filled-more _ _ _ _ _ _ (c .before .before .before .loop .inv) (c .before .before .loop-test .taken) (omega arith) (omega arith) _ (c .byte .ensures .0)
 
--- src/tables.rt:12:1
 returns : tie.Need-returns Inv-loop μ-loop
 returns c = filled-all _ _ _ _ _ _ (c .before .loop .inv) (c .loop-test .left)
 

@@ -1,6 +1,6 @@
+-- `sheet::tables::tags` meets its contract. The invariant: the tags of the first k cards are in the table. Assumes nothing.
 use mathlib.Core.Path.{_∙_}
 use lib.ListN.{length-set}
--- The invariant: the first k cards are in the table. Assumes nothing.
 use native.Mathlib.Omega.{arith}
 use Prim.Native.Nat.{_-_}
 use mathlib.Core.Path.{_≡_, refl}
@@ -9,9 +9,6 @@ use Rattle.sheet.proofs.Fill.{Filled, filled-none, filled-more, filled-
 use Rattle.card.specs.Layout.{cardLong}
 use Rattle.sheet.proofs.tables.tags.Statement.{statement}
 use Rattle.sheet.proofs.tables.tags.Tie as tie
-use Rattle.sheet.proofs.tables.tags.Reads as reads
-use Rattle.sheet.proofs.tables.tags.Lts as lts
-use Rattle.card.proofs.long.Reads as long-reads
 
 abbrev Inv-loop : tie.InvT-loop
 Inv-loop s list count out₀ k₀ out k = Filled (length out₀) (λ c. cardLong s c 4) list count out k × (length out ≡ length out₀)
@@ -19,51 +16,39 @@ Inv-loop s list count out₀ k₀ out k = Filled (length out₀) (λ c. cardLong
 abbrev μ-loop : tie.MeasureT-loop
 μ-loop s list count out₀ k₀ out k = count - k
 
--- src/tables.rt:45:5
 loop-holds : tie.Need-loop-holds Inv-loop μ-loop
 loop-holds c = (filled-none _ _ _ _ _ (c .before .before .pre .2), refl)
 
--- src/tables.rt:46:26
 element-copy-out-long : tie.Need-element-copy-out-long Inv-loop μ-loop
 element-copy-out-long c = omega arith
 
--- src/tables.rt:46:26
 cast-long : tie.Need-cast-long Inv-loop μ-loop
 cast-long c = omega (arith, c .before .before .before .before .before .pre .0 .inside (c .before .before .loop .k) (c .before .loop-test .taken))
 
--- src/tables.rt:46:18
 long-requires : tie.Need-long-requires Inv-loop μ-loop
 long-requires c κs = omega (arith, c .before .before .before .before .before .pre .0 .inside (c .before .before .loop .k) (c .before .loop-test .taken))
 
--- src/tables.rt:46:18
 cast-out : tie.Need-cast-out Inv-loop μ-loop
 cast-out c = omega arith
 
--- src/tables.rt:46:9
 mul-out : tie.Need-mul-out Inv-loop μ-loop
 mul-out c = omega arith
 
--- src/tables.rt:46:9
 slice-write-out : tie.Need-slice-write-out Inv-loop μ-loop
 slice-write-out c = omega arith
 
--- src/tables.rt:47:9
 add-k : tie.Need-add-k Inv-loop μ-loop
 add-k c = omega arith
 
--- src/tables.rt:45:5
 loop-less : tie.Need-loop-less Inv-loop μ-loop
 loop-less c = omega arith
 
--- src/tables.rt:45:5
 loop-again : tie.Need-loop-again Inv-loop μ-loop
 loop-again c = (filled-more _ _ _ _ _ _ (c .before .before .before .loop .inv .0) (c .before .before .loop-test .taken) (omega arith) (omega arith) _ (c .long .ensures .0), simp length-set (c .before .before .before .loop .inv .1))
 
--- src/tables.rt:40:1
 same-length : tie.Need-same-length Inv-loop μ-loop
 same-length c = omega arith
 
--- src/tables.rt:40:1
 returns : tie.Need-returns Inv-loop μ-loop
 returns c = filled-all _ _ _ _ _ _ (c .before .loop .inv .0) (c .loop-test .left)
 

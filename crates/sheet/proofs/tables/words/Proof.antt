@@ -7,9 +7,6 @@ use Rattle.sheet.proofs.Fill.{Filled, filled-none, filled-more, filled-
 use Rattle.card.specs.Layout.{cardWord}
 use Rattle.sheet.proofs.tables.words.Statement.{statement}
 use Rattle.sheet.proofs.tables.words.Tie as tie
-use Rattle.sheet.proofs.tables.words.Reads as reads
-use Rattle.sheet.proofs.tables.words.Lts as lts
-use Rattle.card.proofs.word.Reads as word-reads
 
 abbrev Inv-loop : tie.InvT-loop
 Inv-loop s list count at out₀ k₀ out k = Filled 64 (λ c. cardWord s c at) list count out k
@@ -17,47 +14,36 @@ Inv-loop s list count at out₀ k₀ out k = Filled 64 (λ c. cardWord s c at) l
 abbrev μ-loop : tie.MeasureT-loop
 μ-loop s list count at out₀ k₀ out k = count - k
 
--- src/tables.rt:32:5
 loop-holds : tie.Need-loop-holds Inv-loop μ-loop
 loop-holds c = filled-none 64 _ _ _ _ refl
 
--- src/tables.rt:33:26
 element-copy-out-word : tie.Need-element-copy-out-word Inv-loop μ-loop
 element-copy-out-word c = omega arith
 
--- src/tables.rt:33:26
 cast-word : tie.Need-cast-word Inv-loop μ-loop
 cast-word c = omega (arith, c .before .before .before .before .pre .0 .inside (c .before .before .loop .k) (c .before .loop-test .taken))
 
--- src/tables.rt:33:18
 word-requires : tie.Need-word-requires Inv-loop μ-loop
 word-requires c κs = omega (arith, c .before .before .before .before .pre .0 .inside (c .before .before .loop .k) (c .before .loop-test .taken))
 
--- src/tables.rt:33:18
 cast-out : tie.Need-cast-out Inv-loop μ-loop
 cast-out c = omega arith
 
--- src/tables.rt:33:9
 mul-out : tie.Need-mul-out Inv-loop μ-loop
 mul-out c = omega arith
 
--- src/tables.rt:33:9
 array-write-out : tie.Need-array-write-out Inv-loop μ-loop
 array-write-out c = omega arith
 
--- src/tables.rt:34:9
 add-k : tie.Need-add-k Inv-loop μ-loop
 add-k c = omega arith
 
--- src/tables.rt:32:5
 loop-less : tie.Need-loop-less Inv-loop μ-loop
 loop-less c = omega arith
 
--- src/tables.rt:32:5
 loop-again : tie.Need-loop-again Inv-loop μ-loop
 loop-again c = filled-more _ _ _ _ _ _ (c .before .before .before .loop .inv) (c .before .before .loop-test .taken) (omega arith) (omega arith) _ (c .word .ensures .0)
 
--- src/tables.rt:26:1
 returns : tie.Need-returns Inv-loop μ-loop
 returns c = filled-all _ _ _ _ _ _ (c .before .loop .inv) (c .loop-test .left)
 

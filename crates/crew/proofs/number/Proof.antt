@@ -1,24 +1,19 @@
--- The refusal and the card are small. Assumes nothing.
+-- `crew::number` meets its contract: the refusal and the card are small. Assumes nothing.
 use native.Mathlib.Omega.{arith}
 use mathlib.Core.Path.{sym, ap, subst}
 use Prim.Native.Nat.{_<_}
 use Rattle.sheet.specs.Answer.{numberOf}
-use Rattle.sheet.specs.Cards.{Numbered}
+use Rattle.crew.specs.Number.{Numbered}
 use borrow.Author.Needs.{needs}
-use Rattle.sheet.proofs.number.Statement.{statement}
-use Rattle.sheet.proofs.number.Tie as tie
-use Rattle.sheet.proofs.number.Reads as reads
-use Rattle.sheet.proofs.number.Lts as lts
+use Rattle.crew.proofs.number.Statement.{statement}
+use Rattle.crew.proofs.number.Tie as tie
 
--- src/lib.rt:94:64
 enum-told : tie.Need-enum-told
 enum-told c = search needs
 
--- src/lib.rt:95:28
 enum-known-reading : tie.Need-enum-known-reading
 enum-known-reading c = search needs
 
--- src/lib.rt:95:47
 -- what is asked of a reading, of the refusal that it is
 small : (c : tie.After-known-told) → (c .before .reading .given .0 .0 < 256) × (c .before .reading .given .0 .1 .0 < 256)
 small c = subst Numbered (c .before .reading .given .1) (c .before .before .before .pre)
@@ -26,19 +21,15 @@ small c = subst Numbered (c .before .reading .given .1) (c .before .before .befo
 mul-result : tie.Need-mul-result
 mul-result c = omega (arith, small c)
 
--- src/lib.rt:95:63
 cast-result : tie.Need-cast-result
 cast-result c = omega (arith, small c)
 
--- src/lib.rt:95:47
 add-result : tie.Need-add-result
 add-result c = omega (arith, small c)
 
--- src/lib.rt:89:1
 returns : tie.Need-returns
 returns c = search needs
 
--- src/lib.rt:89:1
 returns-2 : tie.Need-returns-2
 returns-2 c = sym (ap numberOf (c .before .reading .given .1))
 

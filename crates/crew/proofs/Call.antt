@@ -1,0 +1,97 @@
+-- The crew call, return by return. a is the reader's answer on the sheet s. Assumes nothing.
+use mathlib.Core.Bool.{Bool, true, false}
+use mathlib.Core.List.{List, [], _∷_, _++_}
+use mathlib.Core.Path.{_≡_, refl, sym, _∙_, ap, subst}
+use Prim.Native.Nat.{ℕ, _+_, _*_, _<_, _≤_}
+use native.Mathlib.Omega.{arith}
+use lib.ListN.{length, getD, drop}
+use denote.Enum.Declared.{tagOf}
+use types.Run.{OneOf}
+use Rattle.sheet.proofs.Reading.{the-type}
+use Rattle.sheet.specs.Answer.{sheetOf, numberOf}
+use Rattle.sheet.specs.Readable.{ReadableJob}
+use Rattle.sheet.specs.declared.Job as sheet
+use Rattle.sheet.specs.declared.Sheet.{Sheet}
+use Rattle.sheet.specs.declared.Reading.{Reading}
+use Rattle.sheet.specs.declared.Reading.the-variants.{Readable, Refused}
+use Rattle.sheet.proofs.Readable.{read-sheet-job}
+use Rattle.sheet.proofs.Refusals.{read-sheet-refusal}
+use Rattle.workflow.specs.First.{Found, found, nothing, planOf, listOf, firstPlan}
+use Rattle.workflow.proofs.First.{firstPlan-found}
+use Rattle.workflow.proofs.Lists.{planOf-listOf}
+use Rattle.pattern.specs.Tables.{planIn}
+use Rattle.search.specs.Settle.{answer}
+use Rattle.instance.specs.Instance.{instanceOf, mayOf, crewTags}
+use Rattle.crew.specs.Bytes.{Outcome, written}
+use Rattle.crew.specs.Crew.{crewAnswer, crewOf}
+use Rattle.crew.specs.Number.{Numbered}
+use Rattle.crew.proofs.Read.{crew-read, crew-refused, crew-short, crew-none, crew-found, tags-cong}
+
+-- an answer of the second kind is a refusal
+refusal-of : (P : Reading → Type 0) (r : Reading) → OneOf (1 ∷ []) (tagOf the-type r) → ((f c : ℕ) → P (Refused f c)) → P r
+refusal-of P (Readable p n r) k h = absurd (omega arith)
+refusal-of P (Refused f c) k h = h f c
+
+-- what a return has to show: the number, and every byte
+abbrev Returns : List ℕ → List ℕ → ℕ → List ℕ → Type 0
+Returns s buffer n out = (n ≡ crewAnswer s buffer .number) × (out ≡ crewAnswer s buffer .bytes)
+
+returns-outcome : (s buffer : List ℕ) (o : Outcome) → crewAnswer s buffer ≡ o → Returns s buffer (o .number) (o .bytes)
+returns-outcome s buffer o e = (sym (ap (λ (x : Outcome). x .number) e), sym (ap (λ (x : Outcome). x .bytes) e))
+
+module _ (s : List ℕ) (a : Sheet) (e : a ≡ sheetOf s) where
+  read-as : (r : Reading) → a .reading ≡ r → sheetOf s .reading ≡ r
+  read-as r d = sym (ap (λ (x : Sheet). x .reading) e) ∙ d
+
+  pub numbered : OneOf (1 ∷ []) (tagOf the-type (a .reading)) → Numbered (a .reading)
+  numbered k =
+      refusal-of (λ (r : Reading). a .reading ≡ r → Numbered r) (a .reading) k
+      (λ f c d. let q = read-sheet-refusal s f c (read-as (Refused f c) d) in (omega arith, omega arith)) refl
+
+  pub returns-refusal : (buffer : List ℕ) → OneOf (1 ∷ []) (tagOf the-type (a .reading)) → (n : ℕ) → n ≡ numberOf (a .reading) → Returns s buffer n buffer
+  returns-refusal buffer k n d =
+      refusal-of (λ (r : Reading). a .reading ≡ r → n ≡ numberOf r → Returns s buffer n buffer) (a .reading) k
+      (λ f c q m.
+      let o = returns-outcome s buffer _ (crew-refused s buffer f c (read-as (Refused f c) q)) in
+      (m ∙ o .0, o .1)) refl d
+
+  module _ (people steps rules : ℕ) (d : a .reading ≡ Readable people steps rules) where
+    pub readable : ReadableJob people steps rules (a .job)
+    readable =
+        subst (ReadableJob people steps rules) (sym (ap (λ (x : Sheet). x .job) e))
+        (read-sheet-job s people steps rules (read-as (Readable people steps rules) d) .readable)
+
+    crew-is : (buffer : List ℕ) → crewAnswer s buffer ≡ crewOf people steps rules (a .job) buffer
+    crew-is buffer =
+        crew-read s buffer people steps rules (read-as (Readable people steps rules) d)
+        ∙ ap (λ (x : Sheet). crewOf people steps rules (x .job) buffer) (sym e)
+
+    pub returns-short : (buffer : List ℕ) → length buffer < 8 * steps → Returns s buffer 256 buffer
+    returns-short buffer l = returns-outcome s buffer _ (crew-is buffer ∙ crew-short people steps rules (a .job) buffer l)
+
+    module _ (won : Bool) (plan : List ℕ) (is : firstPlan (instanceOf people steps rules (a .job)) (mayOf (a .job)) ≡ answer steps won plan) where
+      pub returns-none : (buffer : List ℕ) → 8 * steps ≤ length buffer → won ≡ false → Returns s buffer 3328 buffer
+      returns-none buffer l w =
+          returns-outcome s buffer _
+          (crew-is buffer ∙ crew-none people steps rules (a .job) buffer l (is ∙ ap (λ (b : Bool). answer steps b plan) w))
+
+      module _ (w : won ≡ true) where
+        is-found : firstPlan (instanceOf people steps rules (a .job)) (mayOf (a .job)) ≡ found (listOf steps (planIn plan))
+        is-found = is ∙ ap (λ (b : Bool). answer steps b plan) w
+
+        pub plan-below : (t : ℕ) → t < steps → getD plan t 0 < 64
+        plan-below t l =
+            let v = firstPlan-found (instanceOf people steps rules (a .job)) (mayOf (a .job)) (listOf steps (planIn plan)) is-found .1 .valid .within t l in
+            let m = readable .people-most in
+            let q : planOf (listOf steps (planIn plan)) t ≡ getD plan t 0 = planOf-listOf steps (planIn plan) t l in
+            omega arith
+
+        pub returns-found : (buffer out : List ℕ) → 8 * steps ≤ length buffer
+            → out ≡ written (crewTags (a .job .«step_tag») (a .job .«person_tag») plan steps) ++ drop (8 * steps) buffer → Returns s buffer 0 out
+        returns-found buffer out l q =
+            let o = returns-outcome s buffer _ (crew-is buffer ∙ crew-found people steps rules (a .job) buffer l (listOf steps (planIn plan)) is-found) in (
+              o .0,
+              q ∙ ap (λ (x : List ℕ). written x ++ drop (8 * steps) buffer)
+                  (tags-cong (a .job .«step_tag») (a .job .«person_tag») plan (listOf steps (planIn plan)) steps (λ t h. sym (planOf-listOf steps (planIn plan) t h)))
+                  ∙ o .1,
+            )

@@ -1,0 +1,37 @@
+// The crew, written into the caller's buffer: 8 bytes a step.
+ghost use mathlib.Core.List.{_++_};
+ghost use mathlib.Core.Path.{_≡_};
+ghost use Prim.Native.Nat.{ℕ, _+_, _*_, _<_, _≤_};
+ghost use lib.ListN.{length, getD, drop};
+ghost use Rattle.instance.specs.Instance.{crewTags};
+ghost use Rattle.crew.specs.Bytes.{longBytes, putAt, written};
+
+// Writes a number as four bytes, the low one first.
+pub fn put_long(out: &mut [u8], at: usize, x: u32)
+    requires { ⌜ at + 4 ≤ length (now out) ⌝ }
+    ensures { λ _. ⌜ now (out .exit) ≡ putAt (now (out .entry)) at (longBytes x) ⌝ }
+{
+    out[at] = (x % 256) as u8;
+    out[at + 1] = (x / 256 % 256) as u8;
+    out[at + 2] = (x / 65536 % 256) as u8;
+    out[at + 3] = (x / 16777216 % 256) as u8;
+}
+
+// Writes the step's tag and the person's tag of each step.
+pub fn write_crew(
+    step_tag: &[u32; 12],
+    person_tag: &[u32; 64],
+    plan: &[u8; 12],
+    steps: usize,
+    out: &mut [u8],
+)
+    requires { ⌜ (length (now «step_tag») ≡ 12) × (length (now «person_tag») ≡ 64) × (length (now plan) ≡ 12) × (steps ≤ 12)
+        × (8 * steps ≤ length (now out)) × ((s : ℕ) → s < steps → getD (now plan) s 0 < 64) ⌝ }
+    ensures { λ _. ⌜ now (out .exit) ≡ written (crewTags (now («step_tag» .entry)) (now («person_tag» .entry)) (now (plan .entry)) steps) ++ drop (8 * steps) (now (out .entry)) ⌝ }
+{
+    for s in 0..steps {
+        let p = plan[s] as usize;
+        put_long(out, 8 * s, step_tag[s]);
+        put_long(out, 8 * s + 4, person_tag[p]);
+    }
+}

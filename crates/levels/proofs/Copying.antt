@@ -1,0 +1,54 @@
+-- Entries copied into a new array, one after the other. Assumes nothing.
+use mathlib.Core.List.{List}
+use mathlib.Core.Path.{_≡_, sym, subst, ap₂, _∙_}
+use Prim.Native.Nat.{ℕ, _+_, _*_, _-_, _/_, _%_, _≤_, _<_}
+use native.Mathlib.Omega.{arith}
+use lib.Dec.{eqb}
+use lib.ListN.{length, getD, set, length-set}
+use lib.Seq.{getD-set-same, getD-set-other}
+use borrow.Author.Tests.{eqb-true, eqb-false}
+use Rattle.bits.proofs.Below.{by-cases}
+use Rattle.levels.specs.Trims.{Numbered, Rows, Renumbered}
+
+-- the first n entries are those that f gives
+pub record Copied (size n : ℕ) (f : ℕ → ℕ) (xs : List ℕ) : Type 0 where
+  pub sized : length xs ≡ size
+  pub each : (i : ℕ) → i < n → getD xs i 0 ≡ f i
+
+pub copied-more : (size n : ℕ) (f : ℕ → ℕ) (xs : List ℕ) → n < size → Copied size n f xs → Copied size (n + 1) f (set xs n (f n))
+copied-more size n f xs l w =
+    record {
+      sized = length-set xs n (f n) ∙ w .sized;
+      each = λ i b.
+          by-cases (eqb i n)
+          (λ x. subst (λ (k : ℕ). getD (set xs n (f n)) k 0 ≡ f k) (sym (eqb-true i n x)) (getD-set-same xs n (f n) 0 (omega (arith, w .sized))))
+          (λ x. let d : i ≡ n → ⊥ = eqb-false i n x in getD-set-other xs n i (f n) 0 d ∙ w .each i (omega arith));
+    }
+
+-- entry x of the classes kept
+abbrev pub rowEntry : List ℕ → List ℕ → ℕ → ℕ
+rowEntry old class x = getD class ((getD old (x / 64 + 1) 0 - 1) * 64 + x % 64) 0
+
+-- the level of rule i in the new numbers
+abbrev pub newLevel : List ℕ → List ℕ → ℕ → ℕ
+newLevel level new i = getD new (getD level i 0) 0
+
+-- the old level of an entry
+pub row-from : {levels marks n : ℕ} {old new : List ℕ} → Numbered levels marks n old new → (x : ℕ) → x < n * 64 → 1 ≤ getD old (x / 64 + 1) 0
+row-from w x l = w .keeps .from (x / 64 + 1) (omega arith) (omega arith)
+
+pub row-to : {levels marks n : ℕ} {old new : List ℕ} → Numbered levels marks n old new → (x : ℕ) → x < n * 64 → getD old (x / 64 + 1) 0 ≤ levels
+row-to w x l = w .keeps .to (x / 64 + 1) (omega arith) (omega arith)
+
+pub copied-rows : (n x : ℕ) (old class class′ : List ℕ) → Copied 192 x (rowEntry old class) class′ → n * 64 ≤ x → Rows n old class class′
+copied-rows n x old class class′ w l =
+    record {
+      sized = w .sized;
+      each = λ k p a b m.
+          let e : ((k - 1) * 64 + p) / 64 + 1 ≡ k = omega arith in
+          let f : ((k - 1) * 64 + p) % 64 ≡ p = omega arith in
+          w .each ((k - 1) * 64 + p) (omega arith) ∙ ap₂ (λ (u v : ℕ). getD class ((getD old u 0 - 1) * 64 + v) 0) e f;
+    }
+
+pub copied-levels : (rules i : ℕ) (level new level′ : List ℕ) → Copied 64 i (newLevel level new) level′ → rules ≤ i → Renumbered rules level new level′
+copied-levels rules i level new level′ w l = record { sized = w .sized; each = λ k b. w .each k (omega arith) }

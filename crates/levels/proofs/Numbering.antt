@@ -1,0 +1,63 @@
+-- The marked levels, numbered one after the other. Assumes nothing.
+use mathlib.Core.Bool.{true, false}
+use mathlib.Core.List.{List}
+use mathlib.Core.Path.{_≡_, sym, subst, _∙_}
+use Prim.Native.Nat.{ℕ, suc, _+_, _≤_, _<_}
+use native.Mathlib.Omega.{arith}
+use native.Mathlib.Numerals.{add-one}
+use lib.Dec.{eqb}
+use lib.ListN.{length, getD, set, length-set}
+use lib.Seq.{getD-set-same, getD-set-other}
+use borrow.Author.Tests.{eqb-true, eqb-false}
+use Rattle.bits.specs.Word.{hasBit}
+use Rattle.bits.specs.Set.{Added}
+use Rattle.bits.proofs.Below.{by-cases}
+use Rattle.bits.proofs.SetLaws.{added-has, added-keeps}
+use Rattle.pattern.specs.Kept.{Keeps}
+use Rattle.pattern.proofs.Kept.{keeps-none, keeps-skip, keeps-take}
+use Rattle.levels.specs.Trims.{Marks, Numbered}
+
+pub marks-more : (i all all′ : ℕ) (level : List ℕ) → Added all (getD level i 0) all′ → Marks i level all → Marks (i + 1) level all′
+marks-more i all all′ level a w k l =
+    by-cases (eqb k i)
+    (λ x. subst (λ (v : ℕ). hasBit all′ (getD level v 0) ≡ true) (sym (eqb-true k i x)) (added-has a))
+    (λ x. let n : k ≡ i → ⊥ = eqb-false k i x in added-keeps a (getD level k 0) (w k (omega arith)))
+
+pub numbered-none : (m : ℕ) (old new : List ℕ) → length old ≡ 4 → length new ≡ 4 → Numbered 0 m 0 old new
+numbered-none m old new e f = record { olds = e; news = f; few = omega arith; keeps = keeps-none (hasBit m) _ _ }
+
+module _ {q m n : ℕ} {old new : List ℕ} (w : Numbered q m n old new) where
+  pub numbered-skip : hasBit m (q + 1) ≡ false → Numbered (q + 1) m n old new
+  numbered-skip h =
+      record {
+        olds = w .olds;
+        news = w .news;
+        few = omega (arith, w .few);
+        keeps = subst (λ (k : ℕ). Keeps k n (hasBit m) (λ k. getD old k 0) (λ k. getD new k 0)) (sym (add-one q))
+            (keeps-skip q n (hasBit m) (λ k. getD old k 0) (λ k. getD new k 0) (subst (λ (k : ℕ). hasBit m k ≡ false) (add-one q) h) (w .keeps));
+      }
+
+  pub numbered-take : q < 3 → Numbered (q + 1) m (n + 1) (set old (n + 1) (q + 1)) (set new (q + 1) (n + 1))
+  numbered-take l =
+      record {
+        olds = length-set old (n + 1) (q + 1) ∙ w .olds;
+        news = length-set new (q + 1) (n + 1) ∙ w .news;
+        few = omega (arith, w .few);
+        keeps = subst (λ (k : ℕ). Keeps k (n + 1) (hasBit m) old′ new′) (sym (add-one q))
+            (subst (λ (k : ℕ). Keeps (suc q) k (hasBit m) old′ new′) (sym (add-one n))
+            (keeps-take q n (hasBit m) (λ k. getD old k 0) (λ k. getD new k 0) old′ new′
+            (λ k b. getD-set-other old (n + 1) k (q + 1) 0 (λ e. omega arith))
+            (subst (λ (k : ℕ). old′ k ≡ suc q) (add-one n) (getD-set-same old (n + 1) (q + 1) 0 (omega (arith, w .olds, w .few)) ∙ add-one q))
+            (λ r b. getD-set-other new (q + 1) r (n + 1) 0 (λ e. omega arith))
+            (subst (λ (k : ℕ). new′ k ≡ suc n) (add-one q) (getD-set-same new (q + 1) (n + 1) 0 (omega (arith, w .news)) ∙ add-one n))
+            (w .keeps)));
+      }
+    where
+      old′ : ℕ → ℕ
+      old′ k = getD (set old (n + 1) (q + 1)) k 0
+
+      new′ : ℕ → ℕ
+      new′ k = getD (set new (q + 1) (n + 1)) k 0
+
+pub numbered-all : {levels q m n : ℕ} {old new : List ℕ} → Numbered q m n old new → q ≤ levels → levels ≤ q → Numbered levels m n old new
+numbered-all {levels} {q} {m} {n} {old} {new} w a b = let e : q ≡ levels = omega arith in subst (λ (k : ℕ). Numbered k m n old new) e w

@@ -1,0 +1,9 @@
+pub mod Masks
+pub mod Staff
+pub mod Crowds
+pub mod Rows
+pub mod Descend
+pub mod Decide
+pub mod Fill
+pub mod Top
+pub mod Leads

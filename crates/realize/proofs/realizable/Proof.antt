@@ -1,0 +1,17 @@
+-- `realize::realizable` meets its contract: at level 0 the one group is that of all placed steps, and the one class everybody. Assumes nothing.
+use Rattle.realize.proofs.Top.{decided-realizable}
+use borrow.Author.Needs.{needs}
+use Rattle.realize.proofs.realizable.Statement.{statement}
+use Rattle.realize.proofs.realizable.Tie as tie
+
+everybody-requires : tie.Need-everybody-requires
+everybody-requires c κs = search needs
+
+decide-requires : tie.Need-decide-requires
+decide-requires c κs = search needs
+
+returns : tie.Need-returns
+returns c = decided-realizable (c .before .everybody .ensures) (c .decide .ensures)
+
+pub realizable-spec : {M : Type 1} → statement M
+realizable-spec = tie.close (tie.spec everybody-requires decide-requires returns)

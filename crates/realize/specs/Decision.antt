@@ -1,0 +1,61 @@
+-- What the functions that decide promise, for every job whose tables they are given. Assumes nothing.
+use mathlib.Core.Bool.{Bool, true, false}
+use mathlib.Core.List.{List}
+use mathlib.Core.Path.{_≡_}
+use Prim.Native.Nat.{ℕ, suc, _+_}
+use lib.ListN.{length, getD}
+use Rattle.bits.specs.Word.{hasBit}
+use Rattle.workflow.specs.Problem.{Job, May}
+use Rattle.pattern.specs.Tables.{mayIn, labelIn}
+use Rattle.pattern.specs.Realize.{Realized, fibre}
+use Rattle.realize.specs.Masks.{Mask, Says}
+use Rattle.realize.specs.Parts.{Part, Known}
+
+-- somebody of C may do step s
+abbrev pub Able : May → (ℕ → Bool) → ℕ → Type 0
+Able may C s = (p : ℕ) × (C p ≡ true) × (may s p ≡ true)
+
+-- each step of `steps` that is not in `rest` has somebody in C
+pub record Staffing (may : May) (C : ℕ → Bool) (steps rest : ℕ) : Type 0 where
+  pub part : (s : ℕ) → hasBit rest s ≡ true → hasBit steps s ≡ true
+  pub able : (s : ℕ) → hasBit steps s ≡ true → hasBit rest s ≡ false → Able may C s
+
+-- the promise of `decide`: the steps can go to the people, or not
+pub record Decided (levels : ℕ) (class may label : List ℕ) (q steps people : ℕ) (r : Bool) : Type 0 where
+  pub says : (j : Job) → Part j levels class label q (hasBit steps) (hasBit people)
+      → Says r (Realized j (mayIn may) (labelIn label) q (hasBit steps) (hasBit people))
+
+-- the promise of `hosts`: r has the classes of `names`, but for `rest`, to whose people the steps of the group can go
+pub record Hosting (levels : ℕ) (class may label : List ℕ) (q group names rest : ℕ) (crowd : List ℕ) (r : ℕ) : Type 0 where
+  pub part : (v : ℕ) → hasBit rest v ≡ true → hasBit names v ≡ true
+  pub only : (v : ℕ) → hasBit r v ≡ true → hasBit names v ≡ true
+  pub left : (v : ℕ) → hasBit rest v ≡ true → hasBit r v ≡ false
+  pub done : (v : ℕ) → hasBit names v ≡ true → hasBit rest v ≡ false → Decided levels class may label (q + 1) group (getD crowd v 0) (hasBit r v)
+
+-- row has the classes that host group g of `steps`
+pub record Row (levels : ℕ) (class may label : List ℕ) (q steps names : ℕ) (crowd : List ℕ) (g row : ℕ) : Type 0 where
+  pub group : ℕ
+  pub mask : Mask (fibre (hasBit steps) (labelIn label (suc q)) g) group
+  pub hosting : Hosting levels class may label q group names 0 crowd row
+
+-- each group of `heads`, the mask of the groups, but for `rest`, has its row
+pub record Linked (levels : ℕ) (class may label : List ℕ) (q steps heads rest names : ℕ) (crowd edges : List ℕ) : Type 0 where
+  pub sized : length edges ≡ 12
+  pub part : (g : ℕ) → hasBit rest g ≡ true → hasBit heads g ≡ true
+  pub done : (g : ℕ) → hasBit heads g ≡ true → hasBit rest g ≡ false → Row levels class may label q steps names crowd g (getD edges g 0)
+
+-- some group of `heads` has no host
+pub record Unhosted (levels : ℕ) (class may label : List ℕ) (q steps heads names : ℕ) (crowd : List ℕ) : Type 0 where
+  pub who : ℕ
+  pub among : hasBit heads who ≡ true
+  pub row : Row levels class may label q steps names crowd who 0
+
+-- the promise of `link`
+pub record Linking (levels : ℕ) (class may label : List ℕ) (q steps heads names : ℕ) (crowd edges : List ℕ) (r : Bool) : Type 0 where
+  pub linked : r ≡ true → Linked levels class may label q steps heads 0 names crowd edges
+  pub unhosted : r ≡ false → Unhosted levels class may label q steps heads names crowd
+
+-- the promise of `realizable`
+pub record Realizable (people levels : ℕ) (class may label : List ℕ) (placed : ℕ) (r : Bool) : Type 0 where
+  pub says : (j : Job) → Known j people levels class label placed
+      → Says r (Realized j (mayIn may) (labelIn label) 0 (hasBit placed) (λ p. true))

@@ -1,0 +1,4 @@
+pub mod Masks
+pub mod Parts
+pub mod Decision
+pub mod Filling

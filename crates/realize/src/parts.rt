@@ -1,0 +1,77 @@
+// The classes that a set of people splits into, and the groups of a set of steps.
+use bits::set;
+use bits::small;
+ghost use mathlib.Core.Path.{_≡_};
+ghost use Prim.Native.Nat.{suc, _<_, _≤_};
+ghost use lib.Dec.{ltb};
+ghost use lib.ListN.{length};
+ghost use Rattle.bits.specs.Word.{hasBit};
+ghost use Rattle.pattern.specs.Tables.{labelIn};
+ghost use Rattle.pattern.specs.Realize.{fibre, groups};
+ghost use Rattle.realize.specs.Masks.{Mask, Blank};
+ghost use Rattle.realize.specs.Parts.{Crowds};
+
+// All of so many people.
+pub fn everybody(people: usize) -> u64
+    requires { ⌜ people ≤ 64 ⌝ }
+    ensures { λ r. ⌜ Mask (λ p. ltb p people) r ⌝ }
+{
+    if people == 64 {
+        return 0xffff_ffff_ffff_ffff;
+    }
+    (1 << people) - 1
+}
+
+// Splits `people` into their classes of level `q` + 1, each at its name, and gives the names. A
+// class is named by a number below 64.
+pub fn crowds(class: &[u8; 192], q: usize, people: u64, crowd: &mut [u64; 64]) -> u64
+    requires { ⌜ (length (now class) ≡ 192) × (q < 3) × Blank 64 (now crowd) ⌝ }
+    ensures { λ r. ⌜ Crowds (now (class .entry)) q people 0 (now (crowd .exit)) r ⌝ }
+{
+    let mut names: u64 = 0;
+    let mut rest = people;
+    while rest != 0 {
+        let p = set::lowest(rest);
+        rest = set::without(rest, p);
+        let v = (class[q * 64 + p] % 64) as usize;
+        crowd[v] = set::with(crowd[v], p);
+        names = set::with(names, v);
+    }
+    names
+}
+
+// Those of `steps` that have the label `g` at level `q` + 1.
+pub fn members(label: &[u8; 36], q: usize, g: u8, steps: u16) -> u16
+    requires { ⌜ (length (now label) ≡ 36) × (q < 3) × (steps < 4096) ⌝ }
+    ensures { λ r. ⌜ Mask (fibre (hasBit steps) (labelIn (now (label .entry)) (suc q)) g) r ⌝ }
+{
+    let mut found: u16 = 0;
+    let mut rest = steps;
+    while rest != 0 {
+        let s = small::lowest(rest);
+        rest = small::without(rest, s);
+        if label[q * 12 + s] != g {
+            continue;
+        }
+        found = small::with(found, s);
+    }
+    found
+}
+
+// The groups of level `q` + 1 inside `steps`: each is named by its label, which is one of its steps.
+pub fn groups_of(label: &[u8; 36], q: usize, steps: u16) -> u16
+    requires { ⌜ (length (now label) ≡ 36) × (q < 3) × (steps < 4096) ⌝ }
+    ensures { λ r. ⌜ Mask (groups (hasBit steps) (labelIn (now (label .entry)) (suc q))) r ⌝ }
+{
+    let mut found: u16 = 0;
+    let mut rest = steps;
+    while rest != 0 {
+        let s = small::lowest(rest);
+        rest = small::without(rest, s);
+        if label[q * 12 + s] != s as u8 {
+            continue;
+        }
+        found = small::with(found, s);
+    }
+    found
+}

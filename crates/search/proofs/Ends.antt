@@ -1,0 +1,164 @@
+-- Where the search begins and where it ends: with nothing placed any valid plan will do, and with every named step placed the plan is
+-- that of the pattern. Assumes nothing.
+use mathlib.Core.Bool.{Bool, true, false, not, _&&_, _||_}
+use mathlib.Core.List.{List}
+use mathlib.Core.Path.{_≡_, refl, sym, subst, ap, _∙_}
+use Prim.Native.Nat.{ℕ, _≤_, _<_}
+use native.Mathlib.Omega.{arith}
+use lib.ListN.{length, replicate}
+use borrow.Author.Tests.{not-true}
+use Rattle.bits.specs.Word.{hasBit}
+use Rattle.bits.proofs.Below.{by-cases, true-false, and-left, and-right}
+use Rattle.bits.proofs.Counting.{is-false, count-none}
+use Rattle.bits.proofs.SetLaws.{empty-lacks, part-le}
+use Rattle.workflow.specs.Problem.{Job, May, Plan, Valid, Satisfiable}
+use Rattle.workflow.specs.Interval.{InInterval}
+use Rattle.workflow.proofs.Valid.{valid-agree}
+use Rattle.pattern.specs.Eligible.{groupCount, openCount, Possible, AllNamed}
+use Rattle.pattern.specs.Realize.{Realizes, Realized}
+use Rattle.pattern.specs.Search.{Searchable, Exists, completed}
+use Rattle.pattern.specs.Tables.{mayIn, labelIn, planIn, jobIn}
+use Rattle.pattern.proofs.Patterns.{nothing-pattern}
+use Rattle.pattern.proofs.Search.{exists-nothing, exists-possible, completed-placed, completed-other, completed-exists}
+use Rattle.eligible.specs.Rules.{AllPossible}
+use Rattle.levels.specs.Given.{Given}
+use Rattle.search.specs.Existence.{Named, AllStaffed, Spread, Existence}
+use Rattle.search.specs.State.{Patterned, Reached, Ended, Outcome}
+use Rattle.realize.specs.Filling.{Realizing}
+use Rattle.search.proofs.Node.{known}
+use Rattle.search.proofs.Staff.{foremost-least}
+
+-- no labels yet
+abbrev pub blank : List ℕ
+blank = replicate {A = ℕ} 36 0
+
+module _ (j : Job) (may : May) (label : List ℕ) where
+  pub nothing-patterned : length label ≡ 36 → Patterned j 0 label
+  nothing-patterned e =
+      record {
+        sized = e;
+        pattern = nothing-pattern (j .steps) (j .levels) (hasBit 0) (labelIn label) (λ s l. empty-lacks s);
+        inside = λ s h. true-false h (empty-lacks s);
+      }
+
+  nothing-realized : Realized j may (labelIn label) 0 (hasBit 0) (λ p. true)
+  nothing-realized = (
+    λ s. 0,
+    record {
+      within = λ s l h. true-false h (empty-lacks s);
+      inside = λ s l h. refl;
+      authorised = λ s l h. true-false h (empty-lacks s);
+      alike = λ q a b. record { forth = λ s t l m h k e. true-false h (empty-lacks s); back = λ s t l m h k e. true-false h (empty-lacks s) };
+    },
+  )
+
+  -- a valid plan has the empty pattern
+  pub nothing-exists : Satisfiable j may → Exists j may (hasBit 0) (labelIn label)
+  nothing-exists w = exists-nothing j may (hasBit 0) (labelIn label) (λ s l. empty-lacks s) .1 w
+
+-- with every step placed that a rule names, a rule that can be met is met
+pub exact : (j : Job) (placed : ℕ → Bool) (label : ℕ → ℕ → ℕ) → AllNamed j placed → (i : ℕ) → i < j .rules
+    → Possible (j .steps) placed label (j .rule i) → InInterval (j .steps) (j .rule i) (groupCount (j .steps) placed label (j .rule i))
+exact j placed label named i l p =
+    let none-open : openCount (j .steps) placed (j .rule i) ≡ 0
+    = count-none (j .steps) (λ s. j .rule i .scope s && not (placed s))
+    (λ s m. is-false _ (λ t. true-false (and-left (j .rule i .scope s) _ t) (named i s l m (not-true (placed s) (and-right (j .rule i .scope s) _ t)))))
+    in
+    record { least = omega (arith, p .least); most = p .most }
+
+-- the search that began with nothing placed has placed the steps named
+pub ended-reached : {j : Job} {may : May} {rest : ℕ} {label : List ℕ} → Ended j may 0 rest label → Reached j may rest 0 label
+ended-reached {j} {may} {rest} {label} w =
+    let a : w .final ≤ rest = part-le (w .final) rest (λ s h. sym (each s) ∙ h) in
+    let b : rest ≤ w .final = part-le rest (w .final) (λ s h. each s ∙ h) in
+    let e : w .final ≡ rest = omega arith in
+    subst (λ (x : ℕ). Reached j may x 0 label) e (w .reached)
+  where
+    each : (s : ℕ) → hasBit (w .final) s ≡ hasBit rest s
+    each s = w .all s ∙ ap (λ (b : Bool). b || hasBit rest s) (empty-lacks s)
+
+-- a plan of the placed steps, in which the others have people permitted, is valid
+pub reached-valid : {j : Job} {may : May} {placed : ℕ} {label : List ℕ} → Searchable j → Reached j may placed 0 label → (π : Plan)
+    → Realizes j may (labelIn label) 0 (hasBit placed) (λ p. true) π
+    → ((s : ℕ) → s < j .steps → hasBit placed s ≡ false → (π s < j .people) × (may s (π s) ≡ true)) → Valid j may π
+reached-valid {j} {may} {placed} {label} ok w π r others =
+    valid-agree j may (completed (hasBit placed) π π) π
+    (λ s l. by-cases (hasBit placed s) (completed-placed (hasBit placed) π π s) (completed-other (hasBit placed) π π s))
+    (completed-exists j may (hasBit placed) (labelIn label) ok named π π r (λ i l. exact j (hasBit placed) (labelIn label) named i l (w .passed .possible i l)) others .0)
+  where
+    named : AllNamed j (hasBit placed)
+    named i s a l h = w .named i s a l h (empty-lacks s)
+
+module _ {steps people levels rules : ℕ} {class kind level limit scope : List ℕ}
+    (given : Given steps people levels rules class kind level limit scope) (may : List ℕ) where
+  -- a step that nobody may do
+  pub existence-unstaffed : (plan : List ℕ) → length plan ≡ 12 → (AllStaffed steps people may → ⊥)
+      → Existence (jobIn steps people levels class rules kind level limit scope) (mayIn may) plan plan false
+  existence-unstaffed plan e n =
+      record {
+        sized = e;
+        won = λ t. true-false refl (sym t);
+        lost = λ t w. n (λ s l. (w .0 s, w .1 .within s l, w .1 .authorised s l));
+        kept = λ t. refl;
+      }
+
+  -- a rule that cannot be met
+  pub existence-ruled-out : (plan label : List ℕ) → length plan ≡ 12 → (AllPossible steps rules kind level limit scope 0 label → ⊥)
+      → Existence (jobIn steps people levels class rules kind level limit scope) (mayIn may) plan plan false
+  existence-ruled-out plan label e n =
+      let j = jobIn steps people levels class rules kind level limit scope in
+      record {
+        sized = e;
+        won = λ t. true-false refl (sym t);
+        lost = λ t w. n (exists-possible j (mayIn may) (hasBit 0) (labelIn label) (given .searchable) (nothing-exists j (mayIn may) label w));
+        kept = λ t. refl;
+      }
+
+  pub start-patterned : (label : List ℕ) → length label ≡ 36 → Patterned (jobIn steps people levels class rules kind level limit scope) 0 label
+  start-patterned label e = nothing-patterned (jobIn steps people levels class rules kind level limit scope) (mayIn may) label e
+
+  pub reached-start : (rest : ℕ) (label : List ℕ) → length label ≡ 36 → AllPossible steps rules kind level limit scope 0 label → Named steps rules scope rest
+      → Reached (jobIn steps people levels class rules kind level limit scope) (mayIn may) 0 rest label
+  reached-start rest label e a n =
+      let j = jobIn steps people levels class rules kind level limit scope in
+      record {
+        patterned = nothing-patterned j (mayIn may) label e;
+        passed = record { possible = a; realized = nothing-realized j (mayIn may) label };
+        below = n .below;
+        apart = λ s h. empty-lacks s;
+        named = λ i s a l h k. n .covers i s a l k;
+      }
+
+  -- the search fails
+  pub existence-lost : (plan label : List ℕ) {rest : ℕ} {last : List ℕ} {r : Bool} → length plan ≡ 12
+      → Outcome (jobIn steps people levels class rules kind level limit scope) (mayIn may) 0 rest label last r → r ≡ false
+      → Existence (jobIn steps people levels class rules kind level limit scope) (mayIn may) plan plan false
+  existence-lost plan label e o f =
+      let j = jobIn steps people levels class rules kind level limit scope in
+      record {
+        sized = e;
+        won = λ t. true-false refl (sym t);
+        lost = λ t w. o .lost f (nothing-exists j (mayIn may) label w);
+        kept = λ t. refl;
+      }
+
+  -- the search succeeds
+  pub existence-won : {rest : ℕ} {label plan plan′ : List ℕ} (first : List ℕ) → AllStaffed steps people may
+      → Reached (jobIn steps people levels class rules kind level limit scope) (mayIn may) rest 0 label → Spread steps may plan
+      → Realizing people levels class may label rest plan plan′
+      → Existence (jobIn steps people levels class rules kind level limit scope) (mayIn may) first plan′ true
+  existence-won {rest} {label} {plan} {plan′} first all w spread filled =
+      record {
+        sized = filled .kept .sized ∙ spread .sized;
+        won = λ t.
+            reached-valid (given .searchable) w (planIn plan′)
+            (filled .realizes (jobIn steps people levels class rules kind level limit scope) (known given may rest label (w .patterned)) (w .passed .realized))
+            (λ s l h.
+            let x = all s l in
+            let f = spread .each s l in
+            let e : planIn plan′ s ≡ planIn plan s = filled .kept .kept s h in
+            let m : planIn plan s ≤ x .0 = foremost-least f (x .0) (x .2) in
+            (omega (arith, x .1), subst (λ (p : ℕ). mayIn may s p ≡ true) (sym e) (f .has (omega (arith, x .1, given .few-people)))));
+        lost = λ t. true-false refl t;
+        kept = λ t. true-false refl t;
+      }

@@ -1,0 +1,4 @@
+pub mod Growth
+pub mod State
+pub mod Existence
+pub mod Settle

@@ -1,0 +1,74 @@
+// A node of the search: a step placed in one of its ways, and the tests on the pattern.
+use super::place::joins;
+use super::place::place;
+use eligible::eligible;
+use levels::Size;
+use realize::realizable;
+ghost use mathlib.Core.Path.{_≡_};
+ghost use lib.ListN.{length};
+ghost use Rattle.pattern.specs.Tables.{mayIn, jobIn};
+ghost use Rattle.levels.specs.Given.{Given};
+ghost use Rattle.search.specs.State.{Patterned, Passing, Growable, Grew};
+
+// Whether each rule can still be met, and the placed steps have people.
+pub fn passes(
+    size: Size,
+    class: &[u8; 192],
+    kind: &[u8; 64],
+    level: &[u8; 64],
+    limit: &[u8; 64],
+    scope: &[u16; 64],
+    may: &[u64; 12],
+    placed: u16,
+    label: &[u8; 36],
+) -> bool
+    requires { ⌜ Given (size .steps) (size .people) (size .levels) (size .rules) (now class) (now kind) (now level) (now limit) (now scope)
+        × (length (now may) ≡ 12)
+        × Patterned (jobIn (size .steps) (size .people) (size .levels) (now class) (size .rules) (now kind) (now level) (now limit) (now scope)) placed (now label) ⌝ }
+    ensures { λ r. ⌜ Passing (jobIn (size .steps) (size .people) (size .levels) (now (class .entry)) (size .rules) (now (kind .entry)) (now (level .entry)) (now (limit .entry)) (now (scope .entry)))
+        (mayIn (now (may .entry))) placed (now (label .entry)) r ⌝ }
+{
+    if !eligible(
+        size.steps,
+        size.rules,
+        kind,
+        level,
+        limit,
+        scope,
+        placed,
+        label,
+    ) {
+        return false;
+    }
+    realizable(size.people, size.levels, class, may, label, placed)
+}
+
+// Places step `s` in way `w`, where there is such a group, and tests the pattern.
+pub fn grow(
+    size: Size,
+    class: &[u8; 192],
+    kind: &[u8; 64],
+    level: &[u8; 64],
+    limit: &[u8; 64],
+    scope: &[u16; 64],
+    may: &[u64; 12],
+    placed: u16,
+    next: u16,
+    s: usize,
+    w: usize,
+    label: &mut [u8; 36],
+) -> bool
+    requires { ⌜ Given (size .steps) (size .people) (size .levels) (size .rules) (now class) (now kind) (now level) (now limit) (now scope)
+        × (length (now may) ≡ 12)
+        × Growable (jobIn (size .steps) (size .people) (size .levels) (now class) (size .rules) (now kind) (now level) (now limit) (now scope)) placed next s w (now label) ⌝ }
+    ensures { λ r. ⌜ Grew (jobIn (size .steps) (size .people) (size .levels) (now (class .entry)) (size .rules) (now (kind .entry)) (now (level .entry)) (now (limit .entry)) (now (scope .entry)))
+        (mayIn (now (may .entry))) placed next s w (now (label .entry)) (now (label .exit)) r ⌝ }
+{
+    let t = w % 12;
+    let d = (w + 11) / 12;
+    if !joins(placed, label, t, d) {
+        return false;
+    }
+    place(size.levels, label, s, t, d);
+    passes(size, class, kind, level, limit, scope, may, next, label)
+}
