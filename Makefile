@@ -1,5 +1,14 @@
-# make test: the gate. Everything that it needs is the Rattle toolchain (rt), gcc and cargo.
-.PHONY: test check
+# make plan: the planning program on sheet W, or on SHEET=file. make test: the gate.
+# Needed: the Rattle toolchain (rt), gcc and cargo.
+PREFIX ?= /usr/local
+SHEET ?= crates/planner/stdin
+LIB = target/staticlib/libfulmarinvar.a
+PLANNER = target/bin/planner
+
+.PHONY: plan test check bench soak install uninstall
+
+plan: $(PLANNER)
+	@$(PLANNER) < $(SHEET)
 
 test:
 	@bash .ci/run
@@ -7,3 +16,34 @@ test:
 # Proves what has changed since the last check, and runs the programs: the quick form, not the verdict.
 check:
 	@rt check
+
+$(PLANNER): $(shell find crates -name '*.rt' -o -name '*.antt') crates.txt
+	@command -v rt > /dev/null || { echo "rt, of the Rattle toolchain, is missing" >&2; exit 1; }
+	@echo "proving and building the planner: some minutes the first time" >&2
+	@rt check planner >&2
+	@touch $@
+
+$(LIB): $(shell find crates -name '*.rt' -o -name '*.antt') crates.txt
+	@command -v rt > /dev/null || { echo "rt, of the Rattle toolchain, is missing" >&2; exit 1; }
+	@echo "proving and building the library: some minutes the first time" >&2
+	@rt staticlib fulmarinvar >&2
+	@touch $@
+
+# Times of both calls beside a hand-written search; the table and target/bench.csv.
+bench: $(LIB)
+	@cargo run --release --offline --manifest-path bench/Cargo.toml -- target/bench.csv
+
+# Random sheets against the brute force for as long as one likes; the seed is printed.
+soak: $(LIB)
+	@cargo run --release --offline --manifest-path tests/Cargo.toml --features library --bin compare -- soak $(SEED)
+
+install: $(LIB) $(PLANNER)
+	install -D -m 644 include/fulmarinvar.h $(DESTDIR)$(PREFIX)/include/fulmarinvar.h
+	install -D -m 644 $(LIB) $(DESTDIR)$(PREFIX)/lib/libfulmarinvar.a
+	install -D -m 755 $(PLANNER) $(DESTDIR)$(PREFIX)/bin/fulmarinvar-planner
+	install -d $(DESTDIR)$(PREFIX)/lib/pkgconfig
+	sed 's|@PREFIX@|$(PREFIX)|' include/fulmarinvar.pc.in > $(DESTDIR)$(PREFIX)/lib/pkgconfig/fulmarinvar.pc
+
+uninstall:
+	rm -f $(DESTDIR)$(PREFIX)/include/fulmarinvar.h $(DESTDIR)$(PREFIX)/lib/libfulmarinvar.a
+	rm -f $(DESTDIR)$(PREFIX)/bin/fulmarinvar-planner $(DESTDIR)$(PREFIX)/lib/pkgconfig/fulmarinvar.pc

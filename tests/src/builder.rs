@@ -174,6 +174,25 @@ pub fn spread_w() -> Draft {
     lay_at(&job_w(), &[9, 2, 7, 4, 1, 10, 5, 8, 3, 6])
 }
 
+/// W with one rule more.
+pub fn w_and(kind: u8, level: u8, limit: u8, scope: u16) -> Draft {
+    let mut job = job_w();
+    job.rules.push(rule(kind, level, limit, scope));
+    lay(&job)
+}
+
+/// W without its last rule.
+pub fn shorter_w() -> Draft {
+    let mut job = job_w();
+    job.rules.pop();
+    lay(&job)
+}
+
+/// One person and one step, both with tag 1.
+pub fn one_by_one(permitted: u16) -> Draft {
+    lay(&Job { people: vec![person(1, 1, 1, permitted)], steps: vec![step(1)], rules: vec![] })
+}
+
 #[cfg(test)]
 mod tests {
     use super::*;

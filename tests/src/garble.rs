@@ -12,13 +12,21 @@ pub struct Sample {
     pub job: Option<Job>,
 }
 
+/// Where the jobs come from.
+type Jobs = fn(&mut Random) -> Job;
+
 /// One sheet in four is good.
 pub fn sample(random: &mut Random) -> Sample {
+    sample_of(random, good_job)
+}
+
+/// The same with jobs of another source.
+pub fn sample_of(random: &mut Random, jobs: Jobs) -> Sample {
     match random.below(20) {
-        0..=4 => good(random),
-        5..=15 => bad(damaged(random)),
+        0..=4 => good(random, jobs),
+        5..=15 => bad(damaged(random, jobs)),
         16 => bad(crowded(random)),
-        17 => bad(tangled(random)),
+        17 => bad(tangled(random, jobs)),
         18 => bad(headed(random)),
         _ => bad(noise(random)),
     }
@@ -28,13 +36,13 @@ fn bad(draft: Draft) -> Sample {
     Sample { sheet: draft.bytes, job: None }
 }
 
-fn good(random: &mut Random) -> Sample {
-    let job = good_job(random);
+fn good(random: &mut Random, jobs: Jobs) -> Sample {
+    let job = jobs(random);
     Sample { sheet: laid(random, &job).bytes, job: Some(job) }
 }
 
-fn damaged(random: &mut Random) -> Draft {
-    let job = good_job(random);
+fn damaged(random: &mut Random, jobs: Jobs) -> Draft {
+    let job = jobs(random);
     let mut draft = laid(random, &job);
     for _ in 0..random.within(1, 3) {
         draft = damage(random, draft);
@@ -200,8 +208,8 @@ fn crowded(random: &mut Random) -> Draft {
 }
 
 /// Good fields on every card, and indices at random.
-fn tangled(random: &mut Random) -> Draft {
-    let job = good_job(random);
+fn tangled(random: &mut Random, jobs: Jobs) -> Draft {
+    let job = jobs(random);
     let mut draft = laid(random, &job);
     for card in 1..draft.cards() {
         if random.once_in(3) {
@@ -249,7 +257,7 @@ mod tests {
     fn good_sheets_are_read_as_they_were_made() {
         let mut random = Random::new(11);
         for _ in 0..2_000 {
-            let made = good(&mut random);
+            let made = good(&mut random, good_job);
             assert_eq!(read(&made.sheet).ok(), made.job);
         }
     }

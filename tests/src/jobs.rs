@@ -34,7 +34,8 @@ fn scope(random: &mut Random, steps: usize, size: usize) -> u16 {
     chosen[..size].iter().map(|s| 1 << (s - 1)).sum()
 }
 
-fn random_rule(random: &mut Random, steps: usize) -> Rule {
+/// A rule of any kind and level over some of the steps, at least two.
+pub fn random_rule(random: &mut Random, steps: usize) -> Rule {
     let kind = random.within(1, 4) as u8;
     let level = random.within(1, 3) as u8;
     if kind <= 2 {
@@ -74,6 +75,29 @@ pub fn good_job(random: &mut Random) -> Job {
     job_of(random, people, steps, rules)
 }
 
+/// A job of which every plan can be tried: few people, classes that several share, permissions tight or loose.
+pub fn small_job(random: &mut Random) -> Job {
+    let steps = random.within(1, 5);
+    let (shops, benches) = (random.within(1, 3), random.within(1, 5));
+    // Each permission is given so many times in four.
+    let ease = random.within(1, 4);
+    let people = random.within(1, 6);
+    let people = tags(random, people)
+        .into_iter()
+        .map(|tag| {
+            let bench = random.below(benches);
+            let permitted = (0..steps).filter(|_| random.below(4) < ease).map(|step| 1 << step).sum();
+            person(tag, 1 + (bench % shops) as u16, 1 + bench as u16, permitted)
+        })
+        .collect();
+    let rules = if steps < 2 { 0 } else { random.below(7) };
+    Job {
+        people,
+        steps: tags(random, steps).into_iter().map(step).collect(),
+        rules: (0..rules).map(|_| random_rule(random, steps)).collect(),
+    }
+}
+
 /// The job's sheet, its cards in some order; now and then in that of the chains.
 pub fn laid(random: &mut Random, job: &Job) -> Draft {
     if random.once_in(4) {
@@ -81,4 +105,29 @@ pub fn laid(random: &mut Random, job: &Job) -> Draft {
     }
     let cards = job.people.len() + job.steps.len() + job.rules.len();
     lay_at(job, &random.order(cards))
+}
+
+#[cfg(test)]
+mod tests {
+    use super::*;
+    use crate::model::read;
+    use crate::plans::{is_small, spare};
+    use std::collections::BTreeSet;
+
+    #[test]
+    fn small_jobs_are_small_and_readable() {
+        let mut random = Random::new(2);
+        for _ in 0..500 {
+            let job = small_job(&mut random);
+            assert!(is_small(&job));
+            assert_eq!(read(&laid(&mut random, &job).bytes), Ok(job));
+        }
+    }
+
+    #[test]
+    fn small_jobs_have_every_spare_count() {
+        let mut random = Random::new(4);
+        let counts: BTreeSet<_> = (0..2_000).map(|_| spare(&small_job(&mut random), 3).map(|s| s.count)).collect();
+        assert_eq!(counts.into_iter().collect::<Vec<_>>(), [None, Some(0), Some(1), Some(2), Some(3)]);
+    }
 }

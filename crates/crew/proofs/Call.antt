@@ -20,7 +20,7 @@ use Rattle.workflow.specs.First.{Found, found, nothing, planOf, listOf, firstPl
 use Rattle.workflow.proofs.First.{firstPlan-found}
 use Rattle.workflow.proofs.Lists.{planOf-listOf}
 use Rattle.pattern.specs.Tables.{planIn}
-use Rattle.search.specs.Settle.{answer}
+use Rattle.first.specs.Settle.{answer}
 use Rattle.instance.specs.Instance.{instanceOf, mayOf, crewTags}
 use Rattle.crew.specs.Bytes.{Outcome, written}
 use Rattle.crew.specs.Crew.{crewAnswer, crewOf}

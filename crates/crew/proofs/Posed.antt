@@ -5,6 +5,7 @@ use native.Mathlib.Omega.{arith}
 use Rattle.sheet.specs.Readable.{ReadableJob}
 use Rattle.sheet.specs.declared.Job as sheet
 use Rattle.levels.specs.Given.{Given}
+use Rattle.levels.specs.Trims.{Levelled}
 use Rattle.tables.specs.Arrays.{ClassesOf}
 use Rattle.tables.proofs.Same.{posed-searchable, posed-leaders}
 
@@ -23,4 +24,15 @@ given people steps rules j r class c =
       scopes = r .sized .scope;
       searchable = posed-searchable people steps rules j r class c;
       leaders = posed-leaders people steps rules j r class c;
+    }
+
+-- the levels of a readable job's rules
+pub levelled : (people steps rules : ℕ) (j : sheet.Job) → ReadableJob people steps rules j → Levelled 3 rules (j .«rule_level»)
+levelled people steps rules j r =
+    record {
+      few-levels = omega arith;
+      few-rules = r .rules-most;
+      sized = r .sized .level;
+      from = λ i l. r .rule i l .level-from;
+      to = λ i l. r .rule i l .level-to;
     }

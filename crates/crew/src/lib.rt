@@ -6,12 +6,13 @@ ghost use Rattle.sheet.specs.Answer.{numberOf};
 ghost use Rattle.sheet.specs.Readable.{ReadableJob};
 ghost use Rattle.workflow.specs.First.{firstPlan};
 ghost use Rattle.instance.specs.Instance.{instanceOf, mayOf};
-ghost use Rattle.search.specs.Settle.{answer};
+ghost use Rattle.first.specs.Settle.{answer};
 ghost use Rattle.crew.specs.Crew.{crewAnswer};
 ghost use Rattle.crew.specs.Number.{Numbered};
+use first::Found;
+use first::first_plan;
 use levels::Size;
-use search::first::Found;
-use search::first::first_plan;
+use levels::keep;
 use sheet::Job;
 use sheet::Reading;
 use sheet::read_sheet;
@@ -51,17 +52,27 @@ pub fn plan_job(job: Job, people: usize, steps: usize, rules: usize) -> Found
     let class = classes(&shop, &bench, people);
     let permitted = job.permitted;
     let may = may_masks(&permitted, people, steps);
-    let kind = job.rule_kind;
-    let level = job.rule_level;
-    let limit = job.rule_limit;
-    let scope = job.rule_scope;
+    let rule_level = job.rule_level;
     let size = Size {
         steps,
         people,
         levels: 3,
         rules,
     };
-    first_plan(size, &class, &kind, &level, &limit, &scope, &may)
+    let kept = keep(size, &class, &rule_level);
+    let kept_class = kept.class;
+    let level = kept.level;
+    let levels = kept.levels;
+    let kind = job.rule_kind;
+    let limit = job.rule_limit;
+    let scope = job.rule_scope;
+    let named = Size {
+        steps,
+        people,
+        levels,
+        rules,
+    };
+    first_plan(named, &kept_class, &kind, &level, &limit, &scope, &may)
 }
 
 // The crew call. Every byte of the buffer and the returned number are what `crewAnswer` gives.

@@ -6,7 +6,7 @@ use mathlib.Core.Path.{_≡_, refl, sym, subst, ap, _∙_}
 use Prim.Native.Nat.{ℕ, _≤_, _<_}
 use native.Mathlib.Omega.{arith}
 use lib.ListN.{length, replicate}
-use borrow.Author.Tests.{not-true}
+use borrow.Author.Tests.{not-true, not-false}
 use Rattle.bits.specs.Word.{hasBit}
 use Rattle.bits.proofs.Below.{by-cases, true-false, and-left, and-right}
 use Rattle.bits.proofs.Counting.{is-false, count-none}
@@ -20,12 +20,14 @@ use Rattle.pattern.specs.Search.{Searchable, Exists, completed}
 use Rattle.pattern.specs.Tables.{mayIn, labelIn, planIn, jobIn}
 use Rattle.pattern.proofs.Patterns.{nothing-pattern}
 use Rattle.pattern.proofs.Search.{exists-nothing, exists-possible, completed-placed, completed-other, completed-exists}
-use Rattle.eligible.specs.Rules.{AllPossible}
+use Rattle.eligible.specs.Rules.{Says, AllPossible}
+use Rattle.eligible.proofs.Tests.{says-true, says-false}
+use Rattle.realize.specs.Parts.{Sized}
 use Rattle.levels.specs.Given.{Given}
 use Rattle.search.specs.Existence.{Named, AllStaffed, Spread, Existence}
 use Rattle.search.specs.State.{Patterned, Reached, Ended, Outcome}
 use Rattle.realize.specs.Filling.{Realizing}
-use Rattle.search.proofs.Node.{known}
+use Rattle.search.proofs.Node.{sized, known}
 use Rattle.search.proofs.Staff.{foremost-least}
 
 -- no labels yet
@@ -92,20 +94,21 @@ reached-valid {j} {may} {placed} {label} ok w π r others =
 module _ {steps people levels rules : ℕ} {class kind level limit scope : List ℕ}
     (given : Given steps people levels rules class kind level limit scope) (may : List ℕ) where
   -- a step that nobody may do
-  pub existence-unstaffed : (plan : List ℕ) → length plan ≡ 12 → (AllStaffed steps people may → ⊥)
+  pub existence-unstaffed : (plan : List ℕ) → length plan ≡ 12 → (r : Bool) → Says r (AllStaffed steps people may) → not r ≡ true
       → Existence (jobIn steps people levels class rules kind level limit scope) (mayIn may) plan plan false
-  existence-unstaffed plan e n =
+  existence-unstaffed plan e r says f =
       record {
         sized = e;
         won = λ t. true-false refl (sym t);
-        lost = λ t w. n (λ s l. (w .0 s, w .1 .within s l, w .1 .authorised s l));
+        lost = λ t w. says-false r (AllStaffed steps people may) says (not-true r f) (λ s l. (w .0 s, w .1 .within s l, w .1 .authorised s l));
         kept = λ t. refl;
       }
 
   -- a rule that cannot be met
-  pub existence-ruled-out : (plan label : List ℕ) → length plan ≡ 12 → (AllPossible steps rules kind level limit scope 0 label → ⊥)
+  pub existence-ruled-out : (plan label : List ℕ) → length plan ≡ 12 → (r : Bool) → Says r (AllPossible steps rules kind level limit scope 0 label) → not r ≡ true
       → Existence (jobIn steps people levels class rules kind level limit scope) (mayIn may) plan plan false
-  existence-ruled-out plan label e n =
+  existence-ruled-out plan label e r says f =
+      let n = says-false r (AllPossible steps rules kind level limit scope 0 label) says (not-true r f) in
       let j = jobIn steps people levels class rules kind level limit scope in
       record {
         sized = e;
@@ -117,9 +120,10 @@ module _ {steps people levels rules : ℕ} {class kind level limit scope : List 
   pub start-patterned : (label : List ℕ) → length label ≡ 36 → Patterned (jobIn steps people levels class rules kind level limit scope) 0 label
   start-patterned label e = nothing-patterned (jobIn steps people levels class rules kind level limit scope) (mayIn may) label e
 
-  pub reached-start : (rest : ℕ) (label : List ℕ) → length label ≡ 36 → AllPossible steps rules kind level limit scope 0 label → Named steps rules scope rest
+  pub reached-start : (rest : ℕ) (label : List ℕ) → length label ≡ 36 → (r : Bool) → Says r (AllPossible steps rules kind level limit scope 0 label) → not r ≡ false → Named steps rules scope rest
       → Reached (jobIn steps people levels class rules kind level limit scope) (mayIn may) 0 rest label
-  reached-start rest label e a n =
+  reached-start rest label e r says f n =
+      let a = says-true r (AllPossible steps rules kind level limit scope 0 label) says (not-false r f) in
       let j = jobIn steps people levels class rules kind level limit scope in
       record {
         patterned = nothing-patterned j (mayIn may) label e;
@@ -130,29 +134,39 @@ module _ {steps people levels rules : ℕ} {class kind level limit scope : List 
       }
 
   -- the search fails
-  pub existence-lost : (plan label : List ℕ) {rest : ℕ} {last : List ℕ} {r : Bool} → length plan ≡ 12
-      → Outcome (jobIn steps people levels class rules kind level limit scope) (mayIn may) 0 rest label last r → r ≡ false
+  pub existence-lost : (plan label : List ℕ) {rest : ℕ} {last : List ℕ} (r : Bool) → length plan ≡ 12
+      → Outcome (jobIn steps people levels class rules kind level limit scope) (mayIn may) 0 rest label last r → not r ≡ true
       → Existence (jobIn steps people levels class rules kind level limit scope) (mayIn may) plan plan false
-  existence-lost plan label e o f =
+  existence-lost plan label r e o f =
       let j = jobIn steps people levels class rules kind level limit scope in
       record {
         sized = e;
         won = λ t. true-false refl (sym t);
-        lost = λ t w. o .lost f (nothing-exists j (mayIn may) label w);
+        lost = λ t w. o .lost (not-true r f) (nothing-exists j (mayIn may) label w);
         kept = λ t. refl;
       }
 
-  -- the search succeeds
-  pub existence-won : {rest : ℕ} {label plan plan′ : List ℕ} (first : List ℕ) → AllStaffed steps people may
-      → Reached (jobIn steps people levels class rules kind level limit scope) (mayIn may) rest 0 label → Spread steps may plan
-      → Realizing people levels class may label rest plan plan′
+  -- the search succeeds: the steps named are placed
+  finished : {rest : ℕ} {label last : List ℕ} (r : Bool) → Outcome (jobIn steps people levels class rules kind level limit scope) (mayIn may) 0 rest label last r
+      → not r ≡ false → Reached (jobIn steps people levels class rules kind level limit scope) (mayIn may) rest 0 last
+  finished r o f = ended-reached (o .won (not-false r f))
+
+  pub finished-sized : {rest : ℕ} {label last : List ℕ} (r : Bool) → length may ≡ 12
+      → Outcome (jobIn steps people levels class rules kind level limit scope) (mayIn may) 0 rest label last r → not r ≡ false → Sized levels class may last rest
+  finished-sized {rest} {label} {last} r e o f = sized given may rest last e (finished r o f .patterned)
+
+  pub existence-won : {rest : ℕ} {label last plan plan′ : List ℕ} (first : List ℕ) (a r : Bool) → Says a (AllStaffed steps people may) → not a ≡ false
+      → Outcome (jobIn steps people levels class rules kind level limit scope) (mayIn may) 0 rest label last r → not r ≡ false → Spread steps may plan
+      → Realizing people levels class may last rest plan plan′
       → Existence (jobIn steps people levels class rules kind level limit scope) (mayIn may) first plan′ true
-  existence-won {rest} {label} {plan} {plan′} first all w spread filled =
+  existence-won {rest} {label} {last} {plan} {plan′} first a r says f o g spread filled =
+      let all = says-true a (AllStaffed steps people may) says (not-false a f) in
+      let w = finished r o g in
       record {
         sized = filled .kept .sized ∙ spread .sized;
         won = λ t.
             reached-valid (given .searchable) w (planIn plan′)
-            (filled .realizes (jobIn steps people levels class rules kind level limit scope) (known given may rest label (w .patterned)) (w .passed .realized))
+            (filled .realizes (jobIn steps people levels class rules kind level limit scope) (known given may rest last (w .patterned)) (w .passed .realized))
             (λ s l h.
             let x = all s l in
             let f = spread .each s l in

@@ -1,7 +1,6 @@
-pub mod Narrow
 pub mod Growth
 pub mod Node
 pub mod Turn
+pub mod Meeting
 pub mod Staff
 pub mod Ends
-pub mod Settling

@@ -1,10 +1,11 @@
 -- The tests at a node of the search, and what placing a step does to the pattern. Assumes nothing.
-use mathlib.Core.Bool.{Bool, true, false}
+use mathlib.Core.Bool.{not, Bool, true, false}
 use mathlib.Core.List.{List}
 use mathlib.Core.Path.{_≡_, refl, sym, subst, _∙_}
 use Prim.Native.Nat.{ℕ, _≤_, _<_}
 use native.Mathlib.Omega.{arith}
 use lib.ListN.{length, getD}
+use borrow.Author.Tests.{not-true, not-false}
 use Rattle.bits.specs.Word.{hasBit}
 use Rattle.bits.proofs.Below.{true-false}
 use Rattle.bits.proofs.SetLaws.{part-le, full-has}
@@ -16,7 +17,7 @@ use Rattle.pattern.specs.Tables.{mayIn, labelIn, jobIn}
 use Rattle.pattern.proofs.Place.{with-cases, grown-placed, grown-pattern}
 use Rattle.pattern.proofs.Same.{pattern-same, exists-same}
 use Rattle.pattern.proofs.Search.{exists-realized, exists-possible}
-use Rattle.eligible.specs.Rules.{AllPossible, Ruled}
+use Rattle.eligible.specs.Rules.{Says, AllPossible, Ruled}
 use Rattle.eligible.proofs.Tests.{says-true, says-false}
 use Rattle.realize.specs.Parts.{Sized, Known}
 use Rattle.realize.specs.Decision.{Realizable}
@@ -73,17 +74,20 @@ module _ {steps people levels rules : ℕ} {class kind level limit scope : List 
       }
 
   -- a rule cannot be met
-  pub passing-ruled-out : (AllPossible steps rules kind level limit scope placed label → ⊥) → Passing (jobIn steps people levels class rules kind level limit scope) (mayIn may) placed label false
-  passing-ruled-out n =
+  pub passing-ruled-out : (r : Bool) → Says r (AllPossible steps rules kind level limit scope placed label) → not r ≡ true
+      → Passing (jobIn steps people levels class rules kind level limit scope) (mayIn may) placed label false
+  passing-ruled-out r says f =
+      let n = says-false r (AllPossible steps rules kind level limit scope placed label) says (not-true r f) in
       record {
         won = λ e. true-false refl (sym e);
         lost = λ e x. n (exists-possible (jobIn steps people levels class rules kind level limit scope) (mayIn may) (hasBit placed) (labelIn label) (given .searchable) x);
       }
 
-  pub passing-decided : (r : Bool) → Patterned (jobIn steps people levels class rules kind level limit scope) placed label
-      → AllPossible steps rules kind level limit scope placed label → Realizable people levels class may label placed r
+  pub passing-decided : (e r : Bool) → Patterned (jobIn steps people levels class rules kind level limit scope) placed label
+      → Says e (AllPossible steps rules kind level limit scope placed label) → not e ≡ false → Realizable people levels class may label placed r
       → Passing (jobIn steps people levels class rules kind level limit scope) (mayIn may) placed label r
-  passing-decided r p a d =
+  passing-decided e r p possible f d =
+      let a = says-true e (AllPossible steps rules kind level limit scope placed label) possible (not-false e f) in
       let j = jobIn steps people levels class rules kind level limit scope in
       let says = d .says j (known p) in
       record {
@@ -93,17 +97,25 @@ module _ {steps people levels rules : ℕ} {class kind level limit scope : List 
             (exists-realized j (mayIn may) (hasBit placed) (labelIn label) x);
       }
 
+-- what is asked of the group that a way joins, and of the classes
+module _ {j : Job} {placed next s w : ℕ} {label : List ℕ} (g : Growable j placed next s w label) (few : j .levels ≤ 3) where
+  pub joinable : (partner w < 12) × (depth w ≤ 3) × (length label ≡ 36)
+  joinable = (omega arith, omega (arith, g .way), g .patterned .sized)
+
+  pub meetable : (class : List ℕ) → length class ≡ 192 → (depth w ≤ 3) × (length class ≡ 192)
+  meetable class e = (omega (arith, g .way), e)
+
 module _ {j : Job} {placed next s w : ℕ} {label : List ℕ} (g : Growable j placed next s w label) (may : May) (few : j .steps ≤ 12) where
   -- there is no such group
-  pub grew-unjoined : (Joins placed label (partner w) (depth w) → ⊥) → Grew j may placed next s w label label false
-  grew-unjoined n =
+  pub grew-unjoined : (r : Bool) → Says r (Joins placed label (partner w) (depth w)) → not r ≡ true → Grew j may placed next s w label label false
+  grew-unjoined r says f =
       record {
         sized = g .patterned .sized;
         kept = λ q u a b h. refl;
         patterned = λ e. true-false refl (sym e);
         passed = λ e. true-false refl (sym e);
         same = λ e. true-false refl (sym e);
-        lost = λ e x y. n x;
+        lost = λ e x y. says-false r (Joins placed label (partner w) (depth w)) says (not-true r f) x;
       }
 
   module _ (joined : Joins placed label (partner w) (depth w)) where

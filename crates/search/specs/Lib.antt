@@ -1,4 +1,4 @@
 pub mod Growth
+pub mod Meet
 pub mod State
 pub mod Existence
-pub mod Settle

@@ -1,4 +1,5 @@
 // A node of the search: a step placed in one of its ways, and the tests on the pattern.
+use super::meet::meets;
 use super::place::joins;
 use super::place::place;
 use eligible::eligible;
@@ -67,6 +68,9 @@ pub fn grow(
     let t = w % 12;
     let d = (w + 11) / 12;
     if !joins(placed, label, t, d) {
+        return false;
+    }
+    if !meets(class, d, may[s], may[t]) {
         return false;
     }
     place(size.levels, label, s, t, d);

@@ -1,7 +1,7 @@
-// The pattern search of document 004, section 3, and the first plan.
+// The pattern search of document 004, section 3.
 pub mod choose;
 pub mod exists;
 pub mod find;
-pub mod first;
 pub mod grow;
+pub mod meet;
 pub mod place;

@@ -48,14 +48,14 @@ firstOf-found (suc n) f xs h =
     (λ e. record { at = n; below = omega arith; here = rw e at h; before = firstOf-nothing n f e })
 
 -- a list for n steps that goes on from xs, names people only, and passes the test
-record Candidate (ok : List ℕ → Bool) (people n : ℕ) (xs ys : List ℕ) : Type 0 where
-  size : length ys ≡ n
-  within : (s : ℕ) → s < n → planOf ys s < people
-  extends : Agree (length xs) (planOf ys) (planOf xs)
-  passes : ok ys ≡ true
+pub record Candidate (ok : List ℕ → Bool) (people n : ℕ) (xs ys : List ℕ) : Type 0 where
+  pub size : length ys ≡ n
+  pub within : (s : ℕ) → s < n → planOf ys s < people
+  pub extends : Agree (length xs) (planOf ys) (planOf xs)
+  pub passes : ok ys ≡ true
 
 -- the first candidate, or that there is none
-abbrev Answer : (List ℕ → Bool) → ℕ → ℕ → List ℕ → Found → Type 0
+abbrev pub Answer : (List ℕ → Bool) → ℕ → ℕ → List ℕ → Found → Type 0
 Answer ok people n xs (found ys) = Candidate ok people n xs ys × ((zs : List ℕ) → Candidate ok people n xs zs → Earlier n (planOf zs) (planOf ys) → ⊥)
 Answer ok people n xs nothing = (zs : List ℕ) → Candidate ok people n xs zs → ⊥
 
@@ -127,7 +127,7 @@ module _ (ok : List ℕ → Bool) (people n : ℕ) (xs : List ℕ) where
           )
 
 -- what trying all people at each step left gives
-tryAll-answer : (ok : List ℕ → Bool) (people n left : ℕ) (xs : List ℕ) → length xs + left ≡ n
+pub tryAll-answer : (ok : List ℕ → Bool) (people n left : ℕ) (xs : List ℕ) → length xs + left ≡ n
     → ((s : ℕ) → s < length xs → planOf xs s < people) → Answer ok people n xs (tryAll ok people left xs)
 unfolding tryAll
 tryAll-answer ok people n zero xs e w =

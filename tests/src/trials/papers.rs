@@ -1,7 +1,7 @@
 //! Sheet W, and those of the paper's sheets to try that concern the reader.
 
 use super::{reads, refused, trial, Trial};
-use crate::builder::{job_w, lay, lay_at, person, plain, rule, sheet_w, step, Draft};
+use crate::builder::{job_w, lay, lay_at, one_by_one, plain, sheet_w, shorter_w, w_and, Draft};
 use crate::model::Job;
 
 pub fn trials() -> Vec<Trial> {
@@ -12,20 +12,7 @@ pub fn trials() -> Vec<Trial> {
     trials
 }
 
-/// W with one rule more.
-fn w_and(kind: u8, level: u8, limit: u8, scope: u16) -> Draft {
-    let mut job = job_w();
-    job.rules.push(rule(kind, level, limit, scope));
-    lay(&job)
-}
-
-fn one_by_one(permitted: u16) -> Draft {
-    lay(&Job { people: vec![person(1, 1, 1, permitted)], steps: vec![step(1)], rules: vec![] })
-}
-
 fn starred() -> Vec<Trial> {
-    let mut shorter = job_w();
-    shorter.rules.pop();
     let backwards: Vec<usize> = (1..=10).rev().collect();
     let mixed = [7, 3, 10, 1, 9, 2, 6, 4, 8, 5];
     vec![
@@ -38,7 +25,7 @@ fn starred() -> Vec<Trial> {
         trial("sheet 6, W and a rule 3,3,1,7", w_and(3, 3, 1, 7), reads(4, 3, 4)),
         trial("sheet 7, one person, one step, permitted", one_by_one(1), reads(1, 1, 0)),
         trial("sheet 8, one person, one step, not permitted", one_by_one(0), reads(1, 1, 0)),
-        trial("sheet 9, W without its last rule", lay(&shorter), reads(4, 3, 2)),
+        trial("sheet 9, W without its last rule", shorter_w(), reads(4, 3, 2)),
     ]
 }
 

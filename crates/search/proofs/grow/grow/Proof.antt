@@ -1,10 +1,11 @@
 -- `search::grow::grow` meets its contract. Assumes nothing.
-use borrow.Author.Tests.{not-true, not-false}
+use borrow.Author.Tests.{not-false}
 use Rattle.pattern.specs.Tables.{mayIn}
-use Rattle.eligible.proofs.Tests.{says-true, says-false}
+use Rattle.eligible.proofs.Tests.{says-true}
 use Rattle.search.specs.Growth.{Joins}
 use Rattle.search.specs.State.{partner, depth}
-use Rattle.search.proofs.Node.{grew-unjoined, placeable, grown-patterned, grew-tested}
+use Rattle.search.proofs.Node.{joinable, meetable, grew-unjoined, placeable, grown-patterned, grew-tested}
+use Rattle.search.proofs.Meeting.{grew-unmet}
 use borrow.Author.Needs.{needs}
 use Rattle.search.proofs.grow.grow.Statement.{statement}
 use Rattle.search.proofs.grow.grow.Tie as tie
@@ -13,13 +14,32 @@ add-d : tie.Need-add-d
 add-d c = search needs
 
 joins-requires : tie.Need-joins-requires
-joins-requires c κs = search needs
+joins-requires c κs = joinable (c .before .pre .2) (c .before .pre .0 .few-levels)
 
 returns : tie.Need-returns
 returns c =
     let p = c .before .before .before .pre in
-    grew-unjoined (p .2) (mayIn (c .before .before .before .args .may .now)) (p .0 .few-steps)
-    (says-false (c .before .joins .result) _ (c .before .joins .ensures) (not-true (c .before .joins .result) (c .if1 .taken)))
+    grew-unjoined (p .2) (mayIn (c .before .before .before .args .may .now)) (p .0 .few-steps) (c .before .joins .result) (c .before .joins .ensures) (c .if1 .taken)
+
+mul-meets : tie.Need-mul-meets
+mul-meets c = search needs
+
+element-copy-out-meets : tie.Need-element-copy-out-meets
+element-copy-out-meets c = search needs
+
+mul-meets-2 : tie.Need-mul-meets-2
+mul-meets-2 c = search needs
+
+element-copy-out-meets-2 : tie.Need-element-copy-out-meets-2
+element-copy-out-meets-2 c = search needs
+
+meets-requires : tie.Need-meets-requires
+meets-requires c κs = meetable (c .before .before .before .before .before .pre .2) (c .before .before .before .before .before .pre .0 .few-levels) (c .before .before .before .before .before .args .class .now) (c .before .before .before .before .before .pre .0 .classes)
+
+returns-2 : tie.Need-returns-2
+returns-2 c =
+    let p = c .before .before .before .before .before .before .before .pre in
+    grew-unmet (p .0) (p .2) (c .before .before .before .before .before .before .before .args .may .now) (c .before .meets .result) (c .before .meets .ensures) (c .if2 .taken)
 
 -- the group is there
 joined : (c : tie.Else1) → Joins (c .before .before .before .args .placed) (c .before .before .before .args .label .now) (partner (c .before .before .before .args .w)) (depth (c .before .before .before .args .w))
@@ -27,21 +47,32 @@ joined c = says-true (c .before .joins .result) _ (c .before .joins .ensures) (n
 
 place-requires : tie.Need-place-requires
 place-requires c κs =
-    let p = c .before .before .before .before .pre in
-    placeable (p .2) (mayIn (c .before .before .before .before .args .may .now)) (p .0 .few-steps)
-    (joined (c .before)) (p .0 .few-levels)
+    let p = c .before .before .before .before .before .before .before .before .pre in
+    placeable (p .2) (mayIn (c .before .before .before .before .before .before .before .before .args .may .now)) (p .0 .few-steps) (joined (c .before .before .before .before .before)) (p .0 .few-levels)
 
 passes-requires : tie.Need-passes-requires
 passes-requires c κs =
-    let p = c .before .before .before .before .before .before .pre in
-    (p .0, p .1, grown-patterned (p .2) (mayIn (c .before .before .before .before .before .before .args .may .now)) (p .0 .few-steps) (joined (c .before .before .before)) (c .before .place .ensures))
+    let p = c .before .before .before .before .before .before .before .before .before .before .pre in
+    (p .0, p .1, grown-patterned (p .2) (mayIn (c .before .before .before .before .before .before .before .before .before .before .args .may .now)) (p .0 .few-steps) (joined (c .before .before .before .before .before .before .before)) (c .before .place .ensures))
 
-returns-2 : tie.Need-returns-2
-returns-2 c =
-    let p = c .before .before .before .before .before .before .before .pre in
-    grew-tested (p .2) (mayIn (c .before .before .before .before .before .before .before .args .may .now)) (p .0 .few-steps) (joined (c .before .before .before .before)) (c .before .before .place .ensures)
-    (c .passes .ensures)
+returns-3 : tie.Need-returns-3
+returns-3 c =
+    let p = c .before .before .before .before .before .before .before .before .before .before .before .pre in
+    grew-tested (p .2) (mayIn (c .before .before .before .before .before .before .before .before .before .before .before .args .may .now)) (p .0 .few-steps) (joined (c .before .before .before .before .before .before .before .before)) (c .before .before .place .ensures) (c .passes .ensures)
 
 pub grow-spec : {M : Type 1} → statement M
 grow-spec =
-    tie.close (tie.spec add-d joins-requires returns place-requires passes-requires returns-2)
+    tie.close
+    (tie.spec
+    add-d
+    joins-requires
+    returns
+    mul-meets
+    element-copy-out-meets
+    mul-meets-2
+    element-copy-out-meets-2
+    meets-requires
+    returns-2
+    place-requires
+    passes-requires
+    returns-3)

@@ -1,6 +1,4 @@
 -- `search::grow::passes` meets its contract: a pattern that a valid plan has passes both tests. Assumes nothing.
-use borrow.Author.Tests.{not-true, not-false}
-use Rattle.eligible.proofs.Tests.{says-true, says-false}
 use Rattle.search.proofs.Node.{ruled, sized, passing-ruled-out, passing-decided}
 use Rattle.search.proofs.grow.passes.Statement.{statement}
 use Rattle.search.proofs.grow.passes.Tie as tie
@@ -11,7 +9,7 @@ eligible-requires c κs = ruled (c .pre .0) (c .args .may .now) (c .args .placed
 returns : tie.Need-returns
 returns c =
     let a = c .before .before .args in
-    passing-ruled-out (c .before .before .pre .0) (a .may .now) (a .placed) (a .label .now) (says-false (c .before .eligible .result) _ (c .before .eligible .ensures) (not-true (c .before .eligible .result) (c .if1 .taken)))
+    passing-ruled-out (c .before .before .pre .0) (a .may .now) (a .placed) (a .label .now) (c .before .eligible .result) (c .before .eligible .ensures) (c .if1 .taken)
 
 realizable-requires : tie.Need-realizable-requires
 realizable-requires c κs =
@@ -23,8 +21,8 @@ returns-2 : tie.Need-returns-2
 returns-2 c =
     let a = c .before .before .before .args in
     let p = c .before .before .before .pre in
-    passing-decided (p .0) (a .may .now) (a .placed) (a .label .now) (c .realizable .result) (p .2)
-    (says-true (c .before .before .eligible .result) _ (c .before .before .eligible .ensures) (not-false (c .before .before .eligible .result) (c .before .if1 .left)))
+    passing-decided (p .0) (a .may .now) (a .placed) (a .label .now) (c .before .before .eligible .result) (c .realizable .result) (p .2)
+    (c .before .before .eligible .ensures) (c .before .if1 .left)
     (c .realizable .ensures)
 
 pub passes-spec : {M : Type 1} → statement M

@@ -1,0 +1,68 @@
+//! The figures of a group: the plain table, and a line a sheet for the file.
+
+use crate::measure::{Measured, Nanos};
+
+/// Which of the times of a sheet.
+type Column = fn(&Measured) -> Nanos;
+
+/// Median, 99th percentile and worst in microseconds, and how many did not finish.
+struct Figures {
+    median: f64,
+    high: f64,
+    worst: f64,
+    unfinished: usize,
+}
+
+/// A sheet that did not finish counts as slower than all others, so that no figure looks better for it.
+fn figures(times: impl Iterator<Item = Nanos>) -> Figures {
+    let mut sorted: Vec<f64> = times.map(|time| time.map_or(f64::INFINITY, |nanos| nanos as f64 / 1_000.0)).collect();
+    sorted.sort_by(f64::total_cmp);
+    let at = |share: f64| sorted[((sorted.len() as f64 * share).ceil() as usize).clamp(1, sorted.len()) - 1];
+    Figures {
+        median: at(0.5),
+        high: at(0.99),
+        worst: at(1.0),
+        unfinished: sorted.iter().filter(|time| time.is_infinite()).count(),
+    }
+}
+
+fn time(micros: f64) -> String {
+    if micros.is_infinite() {
+        return "late".to_string();
+    }
+    format!("{micros:.1}")
+}
+
+pub fn heading() -> String {
+    let times = format!("{:>10} {:>10} {:>10} {:>5}", "median", "p99", "worst", "late");
+    format!("{:24} {:6} {:>6} {:>5} {times}", "group, times in us", "search", "sheets", "plans")
+}
+
+fn line(name: &str, search: &str, all: &[Measured], of: Column) -> String {
+    let found = figures(all.iter().map(of));
+    let plans = all.iter().filter(|one| one.has_plan).count();
+    let times = [found.median, found.high, found.worst].map(|micros| format!("{:>10}", time(micros))).join(" ");
+    format!("{name:24} {search:6} {:>6} {plans:>5} {times} {:>5}", all.len(), found.unfinished)
+}
+
+/// The lines of a group: the library's crew beside the first plan and any plan by hand, then the spare counts.
+pub fn lines(name: &str, all: &[Measured]) -> String {
+    let rows: [(&str, Column); 5] = [
+        ("crew", |one| one.crew),
+        ("first", |one| one.first),
+        ("any", |one| one.exists),
+        ("spare", |one| one.spare),
+        ("hand", |one| one.hand_spare),
+    ];
+    rows.map(|(search, of)| line(name, search, all, of)).join("\n")
+}
+
+pub const CSV_HEADING: &str = "group,sheet,rules,plan,crew_ns,first_ns,any_ns,spare_ns,hand_spare_ns,differences";
+
+/// A time that is missing stands for a search that did not finish.
+pub fn csv_line(name: &str, sheet: u32, one: &Measured) -> String {
+    let field = |time: Nanos| time.map_or(String::new(), |nanos| nanos.to_string());
+    let times = [one.crew, one.first, one.exists, one.spare, one.hand_spare].map(field).join(",");
+    let plan = if one.has_plan { "yes" } else { "no" };
+    format!("{name},{sheet},{},{plan},{times},{}", one.rules, one.differences.join(" and "))
+}

@@ -1,0 +1,129 @@
+// The first plan: a plan is taken, and for each step in turn somebody earlier is looked for, until
+// there is nobody, with the steps before fixed.
+use levels::Size;
+use search::choose::weights;
+use search::exists::exists;
+ghost use mathlib.Core.Path.{_≡_};
+ghost use Prim.Native.Nat.{_+_, _<_};
+ghost use lib.ListN.{length};
+ghost use Rattle.workflow.specs.First.{firstPlan};
+ghost use Rattle.pattern.specs.Tables.{mayIn, planIn, jobIn};
+ghost use Rattle.levels.specs.Given.{Given};
+ghost use Rattle.first.specs.Settle.{Standing, Bettering, Settled, answer};
+
+// An answer: whether there is a valid plan, and then the first one, a person for each step.
+pub struct Found {
+    pub found: bool,
+    pub plan: [u8; 12],
+}
+
+// Looks for a plan that has somebody earlier at step `s`. `may` is narrowed to those.
+fn improve(
+    size: Size,
+    class: &[u8; 192],
+    kind: &[u8; 64],
+    level: &[u8; 64],
+    limit: &[u8; 64],
+    scope: &[u16; 64],
+    s: usize,
+    may: &mut [u64; 12],
+    weight: &mut [u32; 12],
+    plan: &mut [u8; 12],
+) -> bool
+    requires { ⌜ Given (size .steps) (size .people) (size .levels) (size .rules) (now class) (now kind) (now level) (now limit) (now scope)
+        × (length (now may) ≡ 12) × (length (now weight) ≡ 12) × (length (now plan) ≡ 12) × (s < size .steps)
+        × Standing (jobIn (size .steps) (size .people) (size .levels) (now class) (size .rules) (now kind) (now level) (now limit) (now scope)) (mayIn (now may)) s (planIn (now plan)) ⌝ }
+    ensures { λ r. ⌜ Bettering (jobIn (size .steps) (size .people) (size .levels) (now (class .entry)) (size .rules) (now (kind .entry)) (now (level .entry)) (now (limit .entry)) (now (scope .entry)))
+        s (now (may .entry)) (now (may .exit)) (now (plan .entry)) (now (plan .exit)) r × (length (now (weight .exit)) ≡ 12) ⌝ }
+{
+    let p = plan[s];
+    let before = may[s] % (1 << p);
+    if before == 0 {
+        return false;
+    }
+    may[s] = before;
+    exists(size, class, kind, level, limit, scope, may, weight, plan)
+}
+
+// Finds the first person of step `s` in a plan, and fixes the step.
+fn settle(
+    size: Size,
+    class: &[u8; 192],
+    kind: &[u8; 64],
+    level: &[u8; 64],
+    limit: &[u8; 64],
+    scope: &[u16; 64],
+    s: usize,
+    may: &mut [u64; 12],
+    weight: &mut [u32; 12],
+    plan: &mut [u8; 12],
+)
+    requires { ⌜ Given (size .steps) (size .people) (size .levels) (size .rules) (now class) (now kind) (now level) (now limit) (now scope)
+        × (length (now may) ≡ 12) × (length (now weight) ≡ 12) × (length (now plan) ≡ 12) × (s < size .steps)
+        × Standing (jobIn (size .steps) (size .people) (size .levels) (now class) (size .rules) (now kind) (now level) (now limit) (now scope)) (mayIn (now may)) s (planIn (now plan)) ⌝ }
+    ensures { λ _. ⌜ Settled (jobIn (size .steps) (size .people) (size .levels) (now (class .entry)) (size .rules) (now (kind .entry)) (now (level .entry)) (now (limit .entry)) (now (scope .entry)))
+        (s + 1) (now (may .entry)) (now (may .exit)) (now (plan .exit)) × (length (now (weight .exit)) ≡ 12) ⌝ }
+{
+    loop {
+        if !improve(size, class, kind, level, limit, scope, s, may, weight, plan) {
+            let p = plan[s];
+            may[s] = 1 << p;
+            return;
+        }
+    }
+}
+
+// The first plan.
+pub fn first_plan(
+    size: Size,
+    class: &[u8; 192],
+    kind: &[u8; 64],
+    level: &[u8; 64],
+    limit: &[u8; 64],
+    scope: &[u16; 64],
+    may: &[u64; 12],
+) -> Found
+    requires { ⌜ Given (size .steps) (size .people) (size .levels) (size .rules) (now class) (now kind) (now level) (now limit) (now scope)
+        × (length (now may) ≡ 12) ⌝ }
+    ensures { λ r. ⌜ firstPlan (jobIn (size .steps) (size .people) (size .levels) (now (class .entry)) (size .rules) (now (kind .entry)) (now (level .entry)) (now (limit .entry)) (now (scope .entry)))
+        (mayIn (now (may .entry))) ≡ answer (size .steps) (r .found) (r .plan) ⌝ }
+{
+    let mut weight = weights(size.steps, size.rules, scope);
+    let mut plan = [0u8; 12];
+    if !exists(
+        size,
+        class,
+        kind,
+        level,
+        limit,
+        scope,
+        may,
+        &mut weight,
+        &mut plan,
+    ) {
+        return Found {
+            found: false,
+            plan: plan,
+        };
+    }
+    let mut left = *may;
+    let steps = size.steps;
+    for s in 0..steps {
+        settle(
+            size,
+            class,
+            kind,
+            level,
+            limit,
+            scope,
+            s,
+            &mut left,
+            &mut weight,
+            &mut plan,
+        );
+    }
+    Found {
+        found: true,
+        plan: plan,
+    }
+}

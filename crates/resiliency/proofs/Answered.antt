@@ -1,0 +1,125 @@
+-- The spare call in the words of paper 01: each refusal, and what is written on a readable sheet. Assumes nothing.
+use mathlib.Core.List.{List, []}
+use mathlib.Core.Path.{_≡_, refl, sym, subst, ap, _∙_}
+use Prim.Native.Nat.{ℕ, suc, _≤_, _<_}
+use lib.ListN.{length}
+use borrow.Author.Tests.{lt-ltb, le-ltb}
+use native.Mathlib.Omega.{arith}
+use Rattle.sheet.specs.Answer.{jobOf, answer, sheetOf, numberOf}
+use Rattle.sheet.specs.Readable.{ReadableJob, ReadSheet}
+use Rattle.sheet.specs.declared.Job as sheet
+use Rattle.sheet.specs.declared.Sheet.{Sheet}
+use Rattle.sheet.specs.declared.Reading.the-variants.{Readable, Refused}
+use Rattle.sheet.proofs.Readable.{read-sheet-job}
+use Rattle.sheet.specs.Read.{Read, job, fault, readSheet}
+use Rattle.workflow.specs.Problem.{Job, May, Satisfiable}
+use Rattle.instance.specs.Instance.{instanceOf, mayOf}
+use Rattle.crew.specs.Bytes.{Outcome, refused}
+use Rattle.crew.specs.Crew.{shortFault, planFault}
+use Rattle.resiliency.specs.Away.{Resilient, FirstBreaking}
+use Rattle.resiliency.specs.Count.{Spare, unsatisfiable, capped, broken, spare, IsSpare}
+use Rattle.resiliency.specs.Spare.{capLimit, capFault, spareSize, counted, answered, spareOf, spareRead, spareAnswer}
+use Rattle.resiliency.specs.Left.{Left}
+use Rattle.resiliency.proofs.Laws.{spare-unique}
+
+module _ (cap : ℕ) (s buffer : List ℕ) where
+  -- a cap above 3 is found before anything else
+  pub cap-refused : capLimit < cap → spareAnswer cap s buffer ≡ refused capFault 0 buffer
+  unfolding spareAnswer
+  cap-refused l = rw (lt-ltb capLimit cap l) refl
+
+  cap-taken : cap ≤ capLimit → spareAnswer cap s buffer ≡ spareRead cap s buffer (readSheet s)
+  unfolding spareAnswer
+  cap-taken l = rw (le-ltb capLimit cap l) refl
+
+  -- a refusal of the reader is passed up with its card
+  pub sheet-refused : (f c : ℕ) → cap ≤ capLimit → readSheet s ≡ fault f c → spareAnswer cap s buffer ≡ refused f c buffer
+  unfolding spareRead
+  sheet-refused f c l e = cap-taken l ∙ rw e refl
+
+  module _ (people steps rules : List ℕ) (l : cap ≤ capLimit) (e : readSheet s ≡ job people steps rules) where
+    abbrev theJob : Job
+    theJob = instanceOf (length people) (length steps) (length rules) (jobOf s people steps rules)
+
+    abbrev theMay : May
+    theMay = mayOf (jobOf s people steps rules)
+
+    abbrev tags : List ℕ
+    tags = jobOf s people steps rules .«person_tag»
+
+    -- a buffer of less than 16 bytes
+    pub buffer-short : length buffer < spareSize → spareAnswer cap s buffer ≡ refused shortFault 0 buffer
+    unfolding spareRead spareOf
+    buffer-short h = cap-taken l ∙ rw (e, lt-ltb (length buffer) spareSize h) refl
+
+    -- what is written is what is the spare count
+    pub call-answered : spareSize ≤ length buffer → (r : Spare) → IsSpare theJob theMay cap r → spareAnswer cap s buffer ≡ answered tags cap buffer r
+    unfolding spareRead spareOf
+    call-answered h r w = cap-taken l ∙ rw (e, le-ltb (length buffer) spareSize h) (ap (answered tags cap buffer) (spare-unique theJob theMay cap r w))
+
+    -- "13: no valid plan with everyone present"
+    pub call-unsatisfiable : spareSize ≤ length buffer → (Satisfiable theJob theMay → ⊥) → spareAnswer cap s buffer ≡ refused planFault 0 buffer
+    unfolding answered
+    call-unsatisfiable h w = call-answered h unsatisfiable w
+
+    -- every set of at most c people leaves a valid plan
+    pub call-capped : spareSize ≤ length buffer → Resilient theJob theMay cap → spareAnswer cap s buffer ≡ counted tags cap [] buffer
+    unfolding answered
+    call-capped h w = call-answered h capped w
+
+    -- t below c, and the first group of t + 1 whose absence leaves none
+    pub call-broken : spareSize ≤ length buffer → (t : ℕ) (away : List ℕ) → t < cap → Resilient theJob theMay t → FirstBreaking theJob theMay (suc t) away
+        → spareAnswer cap s buffer ≡ counted tags t away buffer
+    unfolding answered
+    call-broken h t away b r f = call-answered h (broken t away) (b, r, f)
+
+-- ---- what the code knows of the sheet that it has read
+
+-- the same outcome
+left-same : {o o′ : Outcome} {n : ℕ} {bs : List ℕ} → o ≡ o′ → Left o′ n bs → Left o n bs
+left-same e h = rw e h
+
+answer-refusal : (s : List ℕ) (r : Read) (f c : ℕ) → answer s r .reading ≡ Refused f c → r ≡ fault f c
+unfolding answer
+answer-refusal s (job people steps rules) f c e = let z : _≡_ {A = ℕ} 0 1 = cc in absurd (omega arith)
+answer-refusal s (fault g d) f c e = cc
+
+spare-counts : (cap : ℕ) (s buffer people steps rules : List ℕ) (p n u : ℕ) (j : sheet.Job) → length people ≡ p → length steps ≡ n → length rules ≡ u
+    → j ≡ jobOf s people steps rules → readSheet s ≡ job people steps rules → spareRead cap s buffer (readSheet s) ≡ spareOf cap p n u j buffer
+unfolding spareRead
+spare-counts cap s buffer people steps rules p n u j a b c d e = rw e (cc)
+
+module _ (cap : ℕ) (s buffer : List ℕ) where
+  pub left-cap : capLimit < cap → Left (spareAnswer cap s buffer) 512 buffer
+  left-cap l = left-same (cap-refused cap s buffer l) (record { number = refl; bytes = refl })
+
+  pub left-refused : (a : Sheet) → a ≡ sheetOf s → cap ≤ capLimit → (f c n : ℕ) → a .reading ≡ Refused f c → n ≡ numberOf (a .reading)
+      → Left (spareAnswer cap s buffer) n buffer
+  left-refused a e l f c n d h =
+      left-same (sheet-refused cap s buffer f c l (answer-refusal s (readSheet s) f c (sym (ap (λ (x : Sheet). x .reading) e) ∙ d)))
+      (record { number = h ∙ ap numberOf d; bytes = refl })
+
+  module _ (a : Sheet) (e : a ≡ sheetOf s) (l : cap ≤ capLimit) (p n u : ℕ) (d : a .reading ≡ Readable p n u) where
+    sheet-read : ReadSheet s p n u (sheetOf s .job)
+    sheet-read = read-sheet-job s p n u (sym (ap (λ (x : Sheet). x .reading) e) ∙ d)
+
+    pub job-readable : ReadableJob p n u (a .job)
+    job-readable = subst (λ (x : Sheet). ReadableJob p n u (x .job)) (sym e) (sheet-read .readable)
+
+    pub left-short : length buffer < spareSize → Left (spareAnswer cap s buffer) 256 buffer
+    left-short h =
+        let w = sheet-read in
+        left-same (buffer-short cap s buffer (w .person-cards) (w .step-cards) (w .rule-cards) l (w .read) h) (record { number = refl; bytes = refl })
+
+    spare-read : spareAnswer cap s buffer ≡ spareOf cap p n u (a .job) buffer
+    spare-read =
+        let w = sheet-read in
+        cap-taken cap s buffer l
+        ∙ spare-counts cap s buffer (w .person-cards) (w .step-cards) (w .rule-cards) p n u (a .job) (w .people-count) (w .steps-count) (w .rules-count)
+        (ap (λ (x : Sheet). x .job) e ∙ w .filled) (w .read)
+
+    pub left-count : spareSize ≤ length buffer → (r : Spare) (m : ℕ) (bs : List ℕ) → r ≡ spare (instanceOf p n u (a .job)) (mayOf (a .job)) cap
+        → Left (answered (a .job .«person_tag») cap buffer r) m bs → Left (spareAnswer cap s buffer) m bs
+    unfolding spareOf
+    left-count h r m bs x y =
+        left-same (spare-read ∙ rw (le-ltb (length buffer) spareSize h) (ap (answered (a .job .«person_tag») cap buffer) (sym x))) y

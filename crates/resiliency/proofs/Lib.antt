@@ -1,0 +1,11 @@
+pub mod Groups
+pub mod Breaking
+pub mod Laws
+pub mod Examples
+pub mod Answered
+pub mod Knowing
+pub mod Walking
+pub mod Turns
+pub mod Sizes
+pub mod Posed
+pub mod Written

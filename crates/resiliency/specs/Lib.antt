@@ -1,0 +1,5 @@
+pub mod Away
+pub mod Count
+pub mod Spare
+pub mod Known
+pub mod Left

@@ -1,0 +1,112 @@
+/* The paper's sheets, and W cut short and damaged, through both calls: number and every byte compared with the file.
+ *
+ *   trials FILE            the sheet read-only; both areas end, then begin, at a page that faults
+ *   trials --plain FILE    areas from malloc, for valgrind */
+#define _DEFAULT_SOURCE
+#include "area.h"
+#include "cases.h"
+#include "fulmarinvar.h"
+
+#include <inttypes.h>
+#include <signal.h>
+#include <stdio.h>
+#include <stdlib.h>
+#include <string.h>
+#include <unistd.h>
+
+/* The case under way, for the handler of faults. */
+static char current[MOST_NAME + 1];
+
+static void faulted(int signal) {
+    static const char text[] = "FAILED, a byte outside the areas, or of the sheet: ";
+    (void)signal;
+    ssize_t ignored = write(STDOUT_FILENO, text, sizeof text - 1);
+    ignored = write(STDOUT_FILENO, current, strlen(current));
+    ignored = write(STDOUT_FILENO, "\n", 1);
+    (void)ignored;
+    _exit(1);
+}
+
+/* What byte k of an area holds before the call. */
+static uint8_t fill(size_t k) {
+    return (uint8_t)(0xA5 ^ k);
+}
+
+static void lay(const struct trial *trial, uint8_t *sheet) {
+    memcpy(sheet, trial->sheet.at, trial->sheet.length);
+    if (trial->damaged != UNDAMAGED) {
+        sheet[trial->damaged] = trial->value;
+    }
+}
+
+static uint32_t call(const struct trial *trial, const struct area *sheet, const struct area *answer) {
+    if (trial->spare) {
+        return fulmarinvar_spare(sheet->bytes, sheet->length, answer->bytes, answer->length, trial->cap);
+    }
+    return fulmarinvar_crew(sheet->bytes, sheet->length, answer->bytes, answer->length);
+}
+
+static int as_stated(const struct trial *trial, uint32_t number, const uint8_t *answer) {
+    int good = number == trial->number;
+    if (!good) {
+        printf("FAILED %s: number %" PRIu32 ", not %" PRIu32 "\n", trial->name, number, trial->number);
+    }
+    for (size_t k = 0; k < trial->room; k++) {
+        uint8_t stated = k < trial->written.length ? trial->written.at[k] : fill(k);
+        if (answer[k] != stated) {
+            printf("FAILED %s: byte %zu is %d, not %d\n", trial->name, k, answer[k], stated);
+            good = 0;
+        }
+    }
+    return good;
+}
+
+static int sheet_kept(const struct trial *trial, const uint8_t *sheet) {
+    for (size_t k = 0; k < trial->sheet.length; k++) {
+        uint8_t laid = k == trial->damaged ? trial->value : trial->sheet.at[k];
+        if (sheet[k] != laid) {
+            printf("FAILED %s: byte %zu of the sheet was written to\n", trial->name, k);
+            return 0;
+        }
+    }
+    return 1;
+}
+
+static int run(const struct trial *trial, enum place place) {
+    struct area sheet = area_take(trial->sheet.length, place);
+    struct area answer = area_take(trial->room, place);
+    lay(trial, sheet.bytes);
+    area_lock(&sheet);
+    for (size_t k = 0; k < trial->room; k++) {
+        answer.bytes[k] = fill(k);
+    }
+    memcpy(current, trial->name, sizeof current);
+    uint32_t number = call(trial, &sheet, &answer);
+    int good = as_stated(trial, number, answer.bytes) & sheet_kept(trial, sheet.bytes);
+    area_give_back(&sheet);
+    area_give_back(&answer);
+    return good;
+}
+
+int main(int count, char **args) {
+    int plain = count == 3 && strcmp(args[1], "--plain") == 0;
+    if (count != 2 && !plain) {
+        fprintf(stderr, "usage: trials [--plain] FILE\n");
+        return 2;
+    }
+    if (!plain) {
+        signal(SIGSEGV, faulted);
+        signal(SIGBUS, faulted);
+    }
+    struct cases cases = cases_open(args[count - 1]);
+    unsigned passed = 0, failed = 0;
+    while (cases.left > 0) {
+        struct trial trial = cases_next(&cases);
+        int good = plain ? run(&trial, PLAIN) : run(&trial, AT_END) & run(&trial, AT_START);
+        passed += good ? 1 : 0;
+        failed += good ? 0 : 1;
+    }
+    free(cases.whole);
+    printf("%u passed, %u failed\n", passed, failed);
+    return failed > 0 || passed == 0;
+}

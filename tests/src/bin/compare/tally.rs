@@ -1,0 +1,51 @@
+//! What has come up so far, and the failing sheets.
+
+use std::collections::BTreeMap;
+use std::fs;
+use std::path::PathBuf;
+
+/// How many failing sheets are named and saved.
+const MOST_SAVED: u64 = 10;
+
+pub struct Tally {
+    seed: u64,
+    met: BTreeMap<String, u64>,
+    pub passed: u64,
+    pub failed: u64,
+}
+
+impl Tally {
+    pub fn new(seed: u64) -> Tally {
+        Tally { seed, met: BTreeMap::new(), passed: 0, failed: 0 }
+    }
+
+    pub fn count(&mut self, outcome: String) {
+        *self.met.entry(outcome).or_default() += 1;
+    }
+
+    /// Counts a sheet as passed or failed; the first failing ones are saved.
+    pub fn enter(&mut self, number: u64, sheet: &[u8], faults: &[String]) {
+        if faults.is_empty() {
+            self.passed += 1;
+            return;
+        }
+        self.failed += 1;
+        if self.failed > MOST_SAVED {
+            return;
+        }
+        let name = format!("compare-{}-{number}.sheet", self.seed);
+        let path = PathBuf::from(env!("CARGO_MANIFEST_DIR")).join("target").join(&name);
+        let saved = match fs::write(path, sheet) {
+            Ok(()) => format!("saved as tests/target/{name}"),
+            Err(error) => format!("not saved: {error}"),
+        };
+        println!("FAILED {}; {saved}", faults.join("; "));
+    }
+
+    pub fn print(&self) {
+        for (outcome, times) in &self.met {
+            println!("{outcome}: {times}");
+        }
+        println!("{} passed, {} failed", self.passed, self.failed);
+    }
+}

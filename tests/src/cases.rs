@@ -1,0 +1,95 @@
+//! The file from which the trials in C take their cases: the paper's sheets, then W cut short and W damaged.
+//!
+//! All numbers have their low byte first. First the sheets: how many (u16), and for each its length (u16) and bytes.
+//! Then the cases: how many (u32), and for each
+//!   sheet (u16), bytes kept of it (u16), damaged byte (u16, 65,535 for none), its new value (u8),
+//!   call (u8: 0 crew, 1 spare), cap (u32), length of the answer area (u16), returned number (u32),
+//!   length of the name (u8), name, number of bytes written (u8), these bytes.
+
+use crate::answers::{answer, Call, SPARE_BYTES};
+use crate::builder::{sheet_w, Draft};
+use crate::calls;
+
+const UNDAMAGED: u16 = u16::MAX;
+const W_ROOM: usize = 24;
+
+/// A sheet of the file, how much of it is kept, and the damage to it.
+struct Source {
+    sheet: usize,
+    kept: usize,
+    damage: Option<(usize, u8)>,
+}
+
+fn add(file: &mut Vec<u8>, source: &Source, trial: &calls::Trial) {
+    let (at, value) = source.damage.map_or((UNDAMAGED, 0), |(at, value)| (at as u16, value));
+    let (call, cap) = match trial.call {
+        Call::Crew => (0, 0),
+        Call::Spare { cap } => (1, cap),
+    };
+    file.extend((source.sheet as u16).to_le_bytes());
+    file.extend((source.kept as u16).to_le_bytes());
+    file.extend(at.to_le_bytes());
+    file.extend([value, call]);
+    file.extend(cap.to_le_bytes());
+    file.extend((trial.room as u16).to_le_bytes());
+    file.extend(trial.number.to_le_bytes());
+    file.push(trial.name.len() as u8);
+    file.extend(trial.name.as_bytes());
+    file.push(trial.written.len() as u8);
+    file.extend(&trial.written);
+}
+
+/// Both calls on the sheet, with what the brute force says of them. The areas are as long as W's answers.
+fn both(sheet: &[u8]) -> [calls::Trial; 2] {
+    [(Call::Crew, W_ROOM), (Call::Spare { cap: 2 }, SPARE_BYTES)].map(|(call, room)| {
+        let found = answer(call, sheet, &vec![0; room]).expect("W and its like are small");
+        let written = if found.number == 0 { found.area } else { vec![] };
+        calls::Trial { name: String::new(), call, sheet: vec![], room, number: found.number, written }
+    })
+}
+
+/// W cut to each length, and with each bit of each byte changed.
+fn damages() -> Vec<(Source, Draft)> {
+    let w = sheet_w();
+    let length = w.bytes.len();
+    let mut found = vec![];
+    for kept in 0..=length {
+        found.push((Source { sheet: 0, kept, damage: None }, w.clone().cut(kept)));
+    }
+    for (at, bit) in (0..length).flat_map(|at| (0..8).map(move |bit| (at, bit))) {
+        let mut draft = w.clone();
+        draft.bytes[at] ^= 1 << bit;
+        let damage = Some((at, draft.bytes[at]));
+        found.push((Source { sheet: 0, kept: length, damage }, draft));
+    }
+    found
+}
+
+/// The whole file.
+pub fn file() -> Vec<u8> {
+    let mut sheets = vec![sheet_w().bytes];
+    let mut cases = vec![];
+    let mut count: u32 = 0;
+    for trial in calls::all() {
+        let sheet = sheets.iter().position(|sheet| *sheet == trial.sheet).unwrap_or(sheets.len());
+        if sheet == sheets.len() {
+            sheets.push(trial.sheet.clone());
+        }
+        add(&mut cases, &Source { sheet, kept: trial.sheet.len(), damage: None }, &trial);
+        count += 1;
+    }
+    for (source, draft) in damages() {
+        for trial in both(&draft.bytes) {
+            add(&mut cases, &source, &trial);
+            count += 1;
+        }
+    }
+    let mut file = (sheets.len() as u16).to_le_bytes().to_vec();
+    for sheet in sheets {
+        file.extend((sheet.len() as u16).to_le_bytes());
+        file.extend(sheet);
+    }
+    file.extend(count.to_le_bytes());
+    file.extend(cases);
+    file
+}

@@ -1,0 +1,53 @@
+//! The library on the paper's sheets and on every damage to one byte of W.
+
+use sheet_tests::answers::{answer, Call, SPARE_BYTES};
+use sheet_tests::builder::sheet_w;
+use sheet_tests::{calls, library};
+use std::thread;
+
+/// What an area holds before a call.
+fn filled(room: usize) -> Vec<u8> {
+    (0..room).map(|k| 0xA5 ^ k as u8).collect()
+}
+
+#[test]
+fn the_papers_sheets_are_answered_as_stated() {
+    for trial in calls::all() {
+        let before = filled(trial.room);
+        let mut area = before.clone();
+        assert_eq!(library::run(trial.call, &trial.sheet, &mut area), trial.number, "{}", trial.name);
+        assert_eq!(area, [&trial.written, &before[trial.written.len()..]].concat(), "{}", trial.name);
+    }
+}
+
+#[test]
+fn every_damage_to_one_byte_of_w_is_answered_as_by_the_brute_force() {
+    let w = sheet_w().bytes;
+    for (at, value) in (0..w.len()).flat_map(|at| (0..=255).map(move |value| (at, value))) {
+        let mut sheet = w.clone();
+        sheet[at] = value;
+        for (call, room) in [(Call::Crew, 24), (Call::Spare { cap: 3 }, SPARE_BYTES)] {
+            let mut area = filled(room);
+            let expected = answer(call, &sheet, &area).expect("W and its like are small");
+            let number = library::run(call, &sheet, &mut area);
+            assert_eq!((number, area), (expected.number, expected.area), "byte {at} is {value}, {call:?}");
+        }
+    }
+}
+
+#[test]
+fn calls_on_several_threads_do_not_meet() {
+    let run = |k: usize| {
+        let trials = calls::all();
+        for trial in trials.iter().cycle().skip(k).take(20 * trials.len()) {
+            let mut area = filled(trial.room);
+            assert_eq!(library::run(trial.call, &trial.sheet, &mut area), trial.number, "{}", trial.name);
+            assert_eq!(area[..trial.written.len()], trial.written, "{}", trial.name);
+        }
+    };
+    thread::scope(|scope| {
+        for k in 0..4 {
+            scope.spawn(move || run(7 * k));
+        }
+    });
+}

@@ -1,0 +1,13 @@
+//! Job sheets as text: one line a person, step or rule, in the order of its chain.
+//!
+//!   person 101 shop 1 bench 1 may 10 20 30
+//!   step 10
+//!   rule same bench 10 20
+//!   rule at-most 2 person 10 20 30
+//!
+//! Steps are named by their tags, levels are shop, bench and person, and # begins a comment.
+
+pub mod line;
+pub mod pack;
+pub mod show;
+mod words;

@@ -1,0 +1,139 @@
+//! One line of the text, by itself.
+
+use crate::words;
+use std::str::SplitWhitespace;
+
+#[derive(Debug, PartialEq, Eq)]
+pub enum Line {
+    Person { tag: u32, shop: u16, bench: u16, may: Vec<u32> },
+    Step { tag: u32 },
+    Rule { kind: u8, level: u8, limit: u8, steps: Vec<u32> },
+}
+
+/// The words of a line that are not yet read. Each reason says what was looked for.
+struct Words<'a> {
+    rest: SplitWhitespace<'a>,
+}
+
+impl<'a> Words<'a> {
+    fn next(&mut self, wanted: &str) -> Result<&'a str, String> {
+        self.rest.next().ok_or_else(|| format!("{wanted} is missing"))
+    }
+
+    fn exact(&mut self, wanted: &str) -> Result<(), String> {
+        let word = self.next(&format!("'{wanted}'"))?;
+        if word != wanted {
+            return Err(format!("'{wanted}' is wanted where '{word}' stands"));
+        }
+        Ok(())
+    }
+
+    /// A number from 1 to `most`.
+    fn number(&mut self, wanted: &str, most: u32) -> Result<u32, String> {
+        let word = self.next(wanted)?;
+        match word.parse() {
+            Ok(number) if (1..=most).contains(&number) => Ok(number),
+            _ => Err(format!("{wanted} is a number from 1 to {most}, not '{word}'")),
+        }
+    }
+
+    fn short(&mut self, wanted: &str) -> Result<u16, String> {
+        Ok(self.number(wanted, u16::MAX.into())? as u16)
+    }
+
+    fn tag(&mut self, wanted: &str) -> Result<u32, String> {
+        self.number(wanted, u32::MAX)
+    }
+
+    fn is_empty(&self) -> bool {
+        self.rest.clone().next().is_none()
+    }
+
+    /// Step tags up to the end of the line.
+    fn steps(&mut self) -> Result<Vec<u32>, String> {
+        let mut steps = vec![];
+        while !self.is_empty() {
+            steps.push(self.tag("a step's tag")?);
+        }
+        Ok(steps)
+    }
+
+    fn end(&self) -> Result<(), String> {
+        match self.rest.clone().next() {
+            Some(word) => Err(format!("nothing is wanted where '{word}' stands")),
+            None => Ok(()),
+        }
+    }
+}
+
+fn person(words: &mut Words) -> Result<Line, String> {
+    let tag = words.tag("the person's tag")?;
+    words.exact("shop")?;
+    let shop = words.short("the shop")?;
+    words.exact("bench")?;
+    let bench = words.short("the bench")?;
+    if words.is_empty() {
+        return Ok(Line::Person { tag, shop, bench, may: vec![] });
+    }
+    words.exact("may")?;
+    Ok(Line::Person { tag, shop, bench, may: words.steps()? })
+}
+
+fn step(words: &mut Words) -> Result<Line, String> {
+    let tag = words.tag("the step's tag")?;
+    words.end()?;
+    Ok(Line::Step { tag })
+}
+
+fn rule(words: &mut Words) -> Result<Line, String> {
+    let word = words.next("the rule's kind")?;
+    let kind =
+        words::kind(word).ok_or_else(|| format!("a rule is same, different, at-most or at-least, not '{word}'"))?;
+    let limit = if words::has_limit(kind) { words.number("the limit", u8::MAX.into())? as u8 } else { 0 };
+    let word = words.next("the level")?;
+    let level = words::level(word).ok_or_else(|| format!("a level is shop, bench or person, not '{word}'"))?;
+    Ok(Line::Rule { kind, level, limit, steps: words.steps()? })
+}
+
+/// What a line says; nothing where it is empty or a comment.
+pub fn read(text: &str) -> Result<Option<Line>, String> {
+    let spoken = text.split('#').next().unwrap_or("");
+    let mut words = Words { rest: spoken.split_whitespace() };
+    match words.rest.next() {
+        None => Ok(None),
+        Some("person") => person(&mut words).map(Some),
+        Some("step") => step(&mut words).map(Some),
+        Some("rule") => rule(&mut words).map(Some),
+        Some(word) => Err(format!("a line begins with person, step or rule, not '{word}'")),
+    }
+}
+
+#[cfg(test)]
+mod tests {
+    use super::*;
+
+    #[test]
+    fn lines_are_read() {
+        let person = Line::Person { tag: 101, shop: 1, bench: 2, may: vec![10, 20] };
+        assert_eq!(read("person 101 shop 1 bench 2 may 10 20 # first"), Ok(Some(person)));
+        let idle = Line::Person { tag: 103, shop: 1, bench: 2, may: vec![] };
+        assert_eq!(read("person 103 shop 1 bench 2"), Ok(Some(idle)));
+        assert_eq!(read("  step 4294967295"), Ok(Some(Line::Step { tag: u32::MAX })));
+        let rule = Line::Rule { kind: 3, level: 3, limit: 2, steps: vec![10, 20, 30] };
+        assert_eq!(read("rule at-most 2 person 10 20 30"), Ok(Some(rule)));
+        assert_eq!(read("# nothing"), Ok(None));
+    }
+
+    #[test]
+    fn a_reason_says_what_was_wanted() {
+        let reason = |text| read(text).unwrap_err();
+        assert_eq!(reason("worker 1"), "a line begins with person, step or rule, not 'worker'");
+        assert_eq!(reason("step"), "the step's tag is missing");
+        assert_eq!(reason("step 0"), "the step's tag is a number from 1 to 4294967295, not '0'");
+        assert_eq!(reason("step 1 2"), "nothing is wanted where '2' stands");
+        assert_eq!(reason("person 1 shop 65536 bench 1"), "the shop is a number from 1 to 65535, not '65536'");
+        assert_eq!(reason("person 1 bench 1 shop 1"), "'shop' is wanted where 'bench' stands");
+        assert_eq!(reason("rule same floor 1 2"), "a level is shop, bench or person, not 'floor'");
+        assert_eq!(reason("rule at-least shop 1 2"), "the limit is a number from 1 to 255, not 'shop'");
+    }
+}

@@ -1,0 +1,51 @@
+//! sheet pack < text > cards; sheet show < cards > text.
+
+use std::env;
+use std::io::{self, Read, Write};
+use std::process::ExitCode;
+
+const USAGE: &str = "usage: sheet pack < TEXT > CARDS
+       sheet show < CARDS > TEXT
+Lines of the text, in the order of the chains; # begins a comment:
+  person TAG shop NUMBER bench NUMBER may STEP...
+  step TAG
+  rule same | different LEVEL STEP STEP
+  rule at-most | at-least LIMIT LEVEL STEP...
+A LEVEL is shop, bench or person, a STEP is a step's tag.";
+
+fn pack(input: Vec<u8>) -> Result<Vec<u8>, String> {
+    let text = String::from_utf8(input).map_err(|_| "the text is not UTF-8".to_string())?;
+    sheet::pack::pack(&text).map_err(|fault| fault.to_string())
+}
+
+fn show(input: Vec<u8>) -> Result<Vec<u8>, String> {
+    match sheet::show::show(&input) {
+        Ok(text) => Ok(text.into_bytes()),
+        Err(refusal) => Err(format!("REFUSED {} CARD {}", refusal.number, refusal.card)),
+    }
+}
+
+fn run(turn: fn(Vec<u8>) -> Result<Vec<u8>, String>) -> Result<(), String> {
+    let mut input = vec![];
+    io::stdin().read_to_end(&mut input).map_err(|error| error.to_string())?;
+    let output = turn(input)?;
+    io::stdout().write_all(&output).map_err(|error| error.to_string())
+}
+
+fn main() -> ExitCode {
+    let done = match env::args().nth(1).as_deref() {
+        Some("pack") => run(pack),
+        Some("show") => run(show),
+        _ => {
+            eprintln!("{USAGE}");
+            return ExitCode::from(2);
+        }
+    };
+    match done {
+        Ok(()) => ExitCode::SUCCESS,
+        Err(reason) => {
+            eprintln!("{reason}");
+            ExitCode::FAILURE
+        }
+    }
+}

@@ -1,0 +1,161 @@
+//! From text to cards. What is packed is readable: every fault that the reader knows is found here, with its line.
+
+use crate::line::{self, Line};
+use crate::words;
+use sheet_tests::builder;
+use sheet_tests::model::{Job, Person, Rule, Step, MOST_PEOPLE, MOST_RULES, MOST_STEPS};
+use std::fmt;
+
+#[derive(Debug, PartialEq, Eq)]
+pub struct Fault {
+    pub line: usize,
+    pub reason: String,
+}
+
+impl fmt::Display for Fault {
+    fn fmt(&self, out: &mut fmt::Formatter) -> fmt::Result {
+        write!(out, "line {}: {}", self.line, self.reason)
+    }
+}
+
+/// Whether there is room for one more.
+fn room(found: usize, most: usize, what: &str) -> Result<(), String> {
+    if found == most {
+        return Err(format!("there are more than {most} {what}"));
+    }
+    Ok(())
+}
+
+/// The steps with these tags as a mask.
+fn mask(steps: &[Step], tags: &[u32]) -> Result<u16, String> {
+    let mut mask = 0;
+    for tag in tags {
+        let Some(at) = steps.iter().position(|step| step.tag == *tag) else {
+            return Err(format!("there is no step {tag}"));
+        };
+        if mask >> at & 1 == 1 {
+            return Err(format!("step {tag} is named twice"));
+        }
+        mask |= 1 << at;
+    }
+    Ok(mask)
+}
+
+fn add_step(job: &mut Job, tag: u32) -> Result<(), String> {
+    room(job.steps.len(), MOST_STEPS, "steps")?;
+    if job.steps.iter().any(|step| step.tag == tag) {
+        return Err(format!("step {tag} is there already"));
+    }
+    job.steps.push(Step { tag });
+    Ok(())
+}
+
+fn add_person(job: &mut Job, person: Person) -> Result<(), String> {
+    room(job.people.len(), MOST_PEOPLE, "people")?;
+    if job.people.iter().any(|other| other.tag == person.tag) {
+        return Err(format!("person {} is there already", person.tag));
+    }
+    if let Some(other) = job.people.iter().find(|other| other.bench == person.bench && other.shop != person.shop) {
+        return Err(format!("bench {} is in shop {} already", other.bench, other.shop));
+    }
+    job.people.push(person);
+    Ok(())
+}
+
+fn add_rule(job: &mut Job, rule: Rule) -> Result<(), String> {
+    room(job.rules.len(), MOST_RULES, "rules")?;
+    let size = rule.scope.count_ones();
+    if !words::has_limit(rule.kind) && size != 2 {
+        return Err(format!("a rule '{}' names two steps, not {size}", words::kind_word(rule.kind)));
+    }
+    if size < 2 {
+        return Err(format!("a rule names two steps or more, not {size}"));
+    }
+    if u32::from(rule.limit) > size {
+        return Err(format!("the limit {} is above the {size} steps named", rule.limit));
+    }
+    job.rules.push(rule);
+    Ok(())
+}
+
+/// Adds what is no step; all steps are known.
+fn add(job: &mut Job, line: &Line) -> Result<(), String> {
+    match line {
+        Line::Step { .. } => Ok(()),
+        Line::Person { tag, shop, bench, may } => {
+            let permitted = mask(&job.steps, may)?;
+            add_person(job, Person { tag: *tag, shop: *shop, bench: *bench, permitted })
+        }
+        Line::Rule { kind, level, limit, steps } => {
+            let scope = mask(&job.steps, steps)?;
+            add_rule(job, Rule { kind: *kind, level: *level, limit: *limit, scope })
+        }
+    }
+}
+
+/// The job that the text describes. Steps are taken in first, since lines above may name them.
+pub fn job(text: &str) -> Result<Job, Fault> {
+    let mut job = Job::default();
+    let mut lines = vec![];
+    for (number, text) in (1..).zip(text.lines()) {
+        let at = |reason| Fault { line: number, reason };
+        let Some(line) = line::read(text).map_err(at)? else {
+            continue;
+        };
+        if let Line::Step { tag } = line {
+            add_step(&mut job, tag).map_err(at)?;
+        }
+        lines.push((number, line));
+    }
+    for (number, line) in &lines {
+        add(&mut job, line).map_err(|reason| Fault { line: *number, reason })?;
+    }
+    let last = text.lines().count().max(1);
+    for (none, what) in [(job.people.is_empty(), "person"), (job.steps.is_empty(), "step")] {
+        if none {
+            return Err(Fault { line: last, reason: format!("the text ends without a {what}") });
+        }
+    }
+    Ok(job)
+}
+
+/// The cards, in the order header, people, steps, rules.
+pub fn pack(text: &str) -> Result<Vec<u8>, Fault> {
+    Ok(builder::lay(&job(text)?).bytes)
+}
+
+#[cfg(test)]
+mod tests {
+    use super::*;
+
+    fn fault(text: &str) -> String {
+        pack(text).unwrap_err().to_string()
+    }
+
+    const PEOPLE: &str = "person 1 shop 1 bench 1 may 10\nstep 10\nstep 20\n";
+
+    #[test]
+    fn faults_are_found_with_their_line() {
+        assert_eq!(fault(""), "line 1: the text ends without a person");
+        assert_eq!(fault("person 1 shop 1 bench 1\n\n"), "line 2: the text ends without a step");
+        assert_eq!(fault("person 1 shop 1 bench 1 may 5\nstep 10"), "line 1: there is no step 5");
+        assert_eq!(fault("step 10\n# more\nstep 10"), "line 3: step 10 is there already");
+        let more = |line: &str| fault(&format!("{PEOPLE}{line}"));
+        assert_eq!(more("person 1 shop 1 bench 1"), "line 4: person 1 is there already");
+        assert_eq!(more("person 2 shop 2 bench 1"), "line 4: bench 1 is in shop 1 already");
+        assert_eq!(more("rule same shop 10"), "line 4: a rule 'same' names two steps, not 1");
+        assert_eq!(more("rule same shop 10 10"), "line 4: step 10 is named twice");
+        assert_eq!(more("rule at-most 1 shop 10"), "line 4: a rule names two steps or more, not 1");
+        assert_eq!(more("rule at-most 3 shop 10 20"), "line 4: the limit 3 is above the 2 steps named");
+    }
+
+    #[test]
+    fn the_first_line_too_many_is_named() {
+        let steps: String = (1..=13).map(|tag| format!("step {tag}\n")).collect();
+        assert_eq!(fault(&steps), "line 13: there are more than 12 steps");
+        let people: String = (1..=65).map(|tag| format!("person {tag} shop 1 bench 1\n")).collect();
+        assert_eq!(fault(&format!("step 1\n{people}")), "line 66: there are more than 64 people");
+        let rules = "rule same shop 10 20\n".repeat(65);
+        assert_eq!(fault(&format!("{PEOPLE}{rules}")), "line 68: there are more than 64 rules");
+    }
+}

@@ -1,0 +1,59 @@
+//! Text and cards, there and back.
+
+use sheet::pack::pack;
+use sheet::show::{show, text};
+use sheet_tests::builder::{lay, one_by_one, sheet_w, shorter_w, w_and, Draft};
+use sheet_tests::garble::sample;
+use sheet_tests::jobs::{good_job, laid};
+use sheet_tests::model::read;
+use sheet_tests::random::Random;
+
+fn examples() -> [(&'static str, Draft); 8] {
+    [
+        (include_str!("../examples/w.txt"), sheet_w()),
+        (include_str!("../examples/trial-3.txt"), sheet_w().word(3, 12, 0)),
+        (include_str!("../examples/trial-4.txt"), w_and(2, 1, 0, 6)),
+        (include_str!("../examples/trial-5.txt"), w_and(4, 3, 3, 7)),
+        (include_str!("../examples/trial-6.txt"), w_and(3, 3, 1, 7)),
+        (include_str!("../examples/trial-7.txt"), one_by_one(1)),
+        (include_str!("../examples/trial-8.txt"), one_by_one(0)),
+        (include_str!("../examples/trial-9.txt"), shorter_w()),
+    ]
+}
+
+#[test]
+fn the_examples_are_the_papers_sheets() {
+    for (text, sheet) in examples() {
+        assert_eq!(pack(text), Ok(sheet.bytes), "{text}");
+    }
+}
+
+#[test]
+fn the_examples_are_shown_as_they_are_written() {
+    for (text, sheet) in examples() {
+        let spoken: String =
+            text.lines().filter(|line| !line.starts_with('#')).map(|line| format!("{line}\n")).collect();
+        assert_eq!(show(&sheet.bytes), Ok(spoken));
+    }
+}
+
+#[test]
+fn what_is_shown_packs_to_the_same_job() {
+    let mut random = Random::new(9);
+    for _ in 0..2_000 {
+        let job = good_job(&mut random);
+        let shown = show(&laid(&mut random, &job).bytes).expect("a good sheet");
+        assert_eq!(shown, text(&job));
+        assert_eq!(pack(&shown), Ok(lay(&job).bytes));
+    }
+}
+
+#[test]
+fn damaged_sheets_are_refused_as_by_the_reader() {
+    assert_eq!(show(&sheet_w().byte(6, 15, 1).bytes).map_err(|r| (r.number, r.card)), Err((8, 6)));
+    let mut random = Random::new(10);
+    for _ in 0..5_000 {
+        let sheet = sample(&mut random).sheet;
+        assert_eq!(show(&sheet).err(), read(&sheet).err());
+    }
+}
