@@ -5,6 +5,9 @@ SHEET ?= crates/planner/stdin
 LIB = target/staticlib/libfulmarinvar.a
 PLANNER = target/bin/planner
 
+# need TOOL: says what is missing
+need = command -v $(1) > /dev/null || { echo "$(1) is missing: it has to be on the PATH" >&2; exit 1; }
+
 .PHONY: plan test check bench soak install uninstall
 
 plan: $(PLANNER)
@@ -18,23 +21,25 @@ check:
 	@rt check
 
 $(PLANNER): $(shell find crates -name '*.rt' -o -name '*.antt') crates.txt
-	@command -v rt > /dev/null || { echo "rt, of the Rattle toolchain, is missing" >&2; exit 1; }
+	@$(call need,rt)
 	@echo "proving and building the planner: some minutes the first time" >&2
 	@rt check planner >&2
 	@touch $@
 
 $(LIB): $(shell find crates -name '*.rt' -o -name '*.antt') crates.txt
-	@command -v rt > /dev/null || { echo "rt, of the Rattle toolchain, is missing" >&2; exit 1; }
+	@$(call need,rt)
 	@echo "proving and building the library: some minutes the first time" >&2
 	@rt staticlib fulmarinvar >&2
 	@touch $@
 
 # Times of both calls beside a hand-written search; the table and target/bench.csv.
 bench: $(LIB)
+	@$(call need,cargo)
 	@cargo run --release --offline --manifest-path bench/Cargo.toml -- target/bench.csv
 
 # Random sheets against the brute force for as long as one likes; the seed is printed.
 soak: $(LIB)
+	@$(call need,cargo)
 	@cargo run --release --offline --manifest-path tests/Cargo.toml --features library --bin compare -- soak $(SEED)
 
 install: $(LIB) $(PLANNER)
