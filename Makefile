@@ -8,7 +8,7 @@ PLANNER = target/bin/planner
 # need TOOL: says what is missing
 need = command -v $(1) > /dev/null || { echo "$(1) is missing: it has to be on the PATH" >&2; exit 1; }
 
-.PHONY: plan test check bench soak install uninstall
+.PHONY: plan test check bench record climb soak install uninstall
 
 plan: $(PLANNER)
 	@$(PLANNER) < $(SHEET)
@@ -32,10 +32,27 @@ $(LIB): $(shell find crates -name '*.rt' -o -name '*.antt') crates.txt
 	@rt staticlib fulmarinvar >&2
 	@touch $@
 
-# Times of both calls beside a hand-written search; the table and target/bench.csv.
+BENCH = cargo run --release --offline --quiet --manifest-path bench/Cargo.toml --
+
+# Times of both calls beside a hand-written search, then beside MiniSat, clingo and SAT4J, as far as they are there; the
+# tables, target/measured.csv and target/peers.csv.
 bench: $(LIB)
 	@$(call need,cargo)
-	@cargo run --release --offline --manifest-path bench/Cargo.toml -- target/bench.csv
+	@$(BENCH) measure target/measured.csv
+	@$(BENCH) peers target/peers.csv
+
+# The same into bench/recorded, and what docs/BENCHMARKS.md shows of it.
+record: $(LIB)
+	@$(call need,cargo)
+	@$(call need,python3)
+	@$(BENCH) measure bench/recorded/measured.csv
+	@$(BENCH) peers bench/recorded/peers.csv
+	@python3 bench/plot --into docs/BENCHMARKS.md
+
+# Looks for sheets that make the planner slow, for SECONDS seconds, from SEED on; the worst go to target/hard.
+climb: $(LIB)
+	@$(call need,cargo)
+	@$(BENCH) climb target/hard --seconds $(or $(SECONDS),300) --seed $(or $(SEED),1)
 
 # Random sheets against the brute force for as long as one likes; the seed is printed.
 soak: $(LIB)

@@ -1,61 +1,76 @@
 //! The groups of sheets that are measured.
 
-use crate::accidents;
-use sheet_tests::jobs::{job_of, random_rule};
-use sheet_tests::model::Job;
+use crate::{accidents, hard, randoms};
+use sheet_tests::model::{Job, MOST_PEOPLE, MOST_STEPS};
 use sheet_tests::random::Random;
 use sheet_tests::recipe::practice_job;
 
-const STEPS: usize = 12;
-const PEOPLE: usize = 64;
+/// The rules of practice sheets of full size, a group for each.
+const PRACTICE_RULES: [usize; 12] = [0, 2, 4, 6, 8, 10, 12, 14, 20, 32, 48, 64];
 
-/// The rules of practice sheets, a group for each.
-const PRACTICE_RULES: [usize; 9] = [0, 2, 4, 8, 14, 20, 32, 48, 64];
-
-/// A job from its number within the group.
+/// A job from its number within the group, from 1 on.
 type Jobs = Box<dyn Fn(u32) -> Job>;
 
 pub struct Group {
     pub name: String,
+    /// How many sheets there are; where they are made from their numbers there is no end.
+    pub sheets: u32,
     pub job: Jobs,
 }
 
+impl Group {
+    /// Whether a name given for the group means it: its own, or the beginning that it shares with others.
+    pub fn is_meant_by(&self, name: &str) -> bool {
+        self.name == name || self.name.starts_with(&format!("{name}-"))
+    }
+}
+
+fn practice_group(rules: usize) -> Group {
+    let job = move |start| practice_job(start, MOST_STEPS, MOST_PEOPLE, rules);
+    Group { name: format!("practice-{rules}"), sheets: u32::MAX, job: Box::new(job) }
+}
+
 fn random_group(name: &str, job: fn(&mut Random) -> Job) -> Group {
-    Group { name: name.to_string(), job: Box::new(move |number| job(&mut Random::new(number.into()))) }
+    let job = move |number: u32| job(&mut Random::new(number.into()));
+    Group { name: name.to_string(), sheets: u32::MAX, job: Box::new(job) }
 }
 
-/// Rules of all four kinds for the people of a practice sheet.
-fn practice_people(random: &mut Random, least: usize, most: usize) -> Job {
-    let mut job = practice_job(random.below(1 << 31) as u32, STEPS, PEOPLE, 0);
-    job.rules = (0..random.within(least, most)).map(|_| random_rule(random, STEPS)).collect();
-    job
-}
-
-/// Any people with any permissions, and rules of all four kinds.
-fn any_job(random: &mut Random) -> Job {
-    let rules = random.within(0, 64);
-    job_of(random, PEOPLE, STEPS, rules)
+/// What was found by the climb and kept.
+fn hard_group() -> Group {
+    let jobs: Vec<Job> = hard::kept().into_iter().map(|(_, job)| job).collect();
+    let sheets = jobs.len() as u32;
+    Group { name: "hard".to_string(), sheets, job: Box::new(move |number| jobs[number as usize - 1].clone()) }
 }
 
 pub fn all() -> Vec<Group> {
-    let mut groups: Vec<Group> = PRACTICE_RULES
-        .into_iter()
-        .map(|rules| Group {
-            name: format!("practice-{rules}"),
-            job: Box::new(move |start| practice_job(start, STEPS, PEOPLE, rules)),
-        })
-        .collect();
+    let mut groups: Vec<Group> = PRACTICE_RULES.into_iter().map(practice_group).collect();
+    groups.push(Group {
+        name: "practice-range".to_string(),
+        sheets: u32::MAX,
+        job: Box::new(randoms::practice_of_any_size),
+    });
     groups.extend([
-        random_group("four-kinds-few", |random| practice_people(random, 1, 8)),
-        random_group("four-kinds-many", |random| practice_people(random, 9, 64)),
-        random_group("any-people", any_job),
+        random_group("four-kinds-few", |random| randoms::practice_people(random, 1, 8)),
+        random_group("four-kinds-many", |random| randoms::practice_people(random, 9, 64)),
+        random_group("loose-few", |random| randoms::loose(random, 1, 8)),
+        random_group("loose-many", |random| randoms::loose(random, 9, 32)),
+        random_group("tight-few", |random| randoms::tight(random, 1, 8)),
+        random_group("tight-many", |random| randoms::tight(random, 9, 32)),
+        random_group("any-people", randoms::any_job),
         random_group("contradiction", accidents::contradiction),
         random_group("fifth-shop", accidents::fifth_shop),
         random_group("eleven-benches", accidents::eleven_benches),
         random_group("eleven-benches-at-once", accidents::eleven_benches_at_once),
         random_group("last-part", accidents::last_part),
+        hard_group(),
     ]);
     groups
+}
+
+/// The groups that are meant; all of them where none is named.
+pub fn meant(names: &[String]) -> Vec<Group> {
+    let is_meant = |group: &Group| names.is_empty() || names.iter().any(|name| group.is_meant_by(name));
+    all().into_iter().filter(is_meant).collect()
 }
 
 #[cfg(test)]
@@ -66,13 +81,20 @@ mod tests {
     use std::collections::HashSet;
 
     #[test]
-    fn every_sheet_is_readable_and_of_full_size() {
+    fn every_sheet_is_readable() {
         for group in all() {
-            for number in 1..=50 {
+            for number in 1..=group.sheets.min(50) {
                 let job = (group.job)(number);
-                assert_eq!((job.steps.len(), job.people.len()), (STEPS, PEOPLE), "{}", group.name);
                 assert_eq!(read(&lay(&job).bytes), Ok(job), "{} {number}", group.name);
             }
+        }
+    }
+
+    #[test]
+    fn sheets_are_of_full_size_but_for_the_range_and_what_the_climb_found() {
+        for group in all().into_iter().filter(|group| group.name != "practice-range" && group.name != "hard") {
+            let job = (group.job)(1);
+            assert_eq!((job.steps.len(), job.people.len()), (MOST_STEPS, MOST_PEOPLE), "{}", group.name);
         }
     }
 
@@ -80,5 +102,14 @@ mod tests {
     fn groups_have_names_of_their_own() {
         let names: HashSet<String> = all().into_iter().map(|group| group.name).collect();
         assert_eq!(names.len(), all().len());
+    }
+
+    #[test]
+    fn a_shared_beginning_means_all_that_have_it() {
+        let names = |name: &str| meant(&[name.to_string()]).into_iter().map(|group| group.name).collect::<Vec<_>>();
+        assert_eq!(names("tight"), ["tight-few", "tight-many"]);
+        assert_eq!(names("practice").len(), PRACTICE_RULES.len() + 1);
+        assert_eq!(names("eleven-benches"), ["eleven-benches", "eleven-benches-at-once"]);
+        assert!(names("tigh").is_empty());
     }
 }

@@ -2,26 +2,31 @@
 
 use crate::absences::spare;
 use crate::baseline::{plan, Found, Order, Plan};
+use crate::clock::{timed, Nanos};
 use crate::problem::Problem;
-use sheet_tests::answers::{crew_bytes, spare_bytes, NO_PLAN, SPARE_BYTES, STEP_BYTES};
+use crate::worker::Worker;
+use sheet_tests::answers::{crew_bytes, room, spare_bytes, Call, NO_PLAN, STEP_BYTES};
 use sheet_tests::builder::lay;
-use sheet_tests::library;
 use sheet_tests::model::Job;
 use sheet_tests::plans::is_valid;
+use std::io;
 use std::time::{Duration, Instant};
 
 const CAP: usize = 3;
 
-/// Quick calls are made so many times, and the best time counts: what else runs on the machine is left out.
-const REPEATS: usize = 5;
-const QUICK: Duration = Duration::from_millis(20);
-
-/// A time in nanoseconds; nothing where the search was out of time.
-pub type Nanos = Option<u64>;
+/// The longest that one call may take.
+#[derive(Clone, Copy)]
+pub struct Limits {
+    pub library: Duration,
+    pub hand: Duration,
+}
 
 pub struct Measured {
-    pub has_plan: bool,
+    pub steps: usize,
+    pub people: usize,
     pub rules: usize,
+    /// Nothing where no search has ended.
+    pub has_plan: Option<bool>,
     pub crew: Nanos,
     pub first: Nanos,
     pub exists: Nanos,
@@ -31,21 +36,6 @@ pub struct Measured {
     pub differences: Vec<&'static str>,
 }
 
-fn timed<T>(mut run: impl FnMut() -> T) -> (T, Duration) {
-    let start = Instant::now();
-    let mut result = run();
-    let mut best = start.elapsed();
-    for _ in 1..REPEATS {
-        if best > QUICK {
-            break;
-        }
-        let start = Instant::now();
-        result = run();
-        best = best.min(start.elapsed());
-    }
-    (result, best)
-}
-
 /// A search with its time, which is none where the search did not finish.
 fn searched<T: Copy>(limit: Duration, run: impl Fn(Instant) -> Found<T>) -> (Found<T>, Nanos) {
     let (found, time) = timed(|| run(Instant::now() + limit));
@@ -53,14 +43,22 @@ fn searched<T: Copy>(limit: Duration, run: impl Fn(Instant) -> Found<T>) -> (Fou
     (found, finished.then_some(time.as_nanos() as u64))
 }
 
-/// What the library returned and wrote; nothing written where it refused.
-type Answer = (u32, Vec<u8>);
+/// What the library returned and wrote: nothing written where it refused, and nothing at all where it was late.
+pub type Answer = Option<(u32, Vec<u8>)>;
 
-fn called(room: usize, run: impl Fn(&mut [u8]) -> u32) -> (Answer, Nanos) {
-    let mut area = vec![0; room];
-    let (number, time) = timed(|| run(&mut area));
-    let written = if number == 0 { area } else { vec![] };
-    ((number, written), Some(time.as_nanos() as u64))
+pub fn called(worker: &mut Worker, call: Call, job: &Job, limit: Duration) -> io::Result<(Answer, Nanos)> {
+    let Some(called) = worker.call(call, &lay(job).bytes, limit)? else {
+        return Ok((None, None));
+    };
+    let written = if called.number == 0 { called.area[..room(call, job)].to_vec() } else { vec![] };
+    Ok((Some((called.number, written)), Some(called.nanos)))
+}
+
+/// The people of a crew that was written, by their places in crew order.
+pub fn people_of(job: &Job, crew: &[u8]) -> Option<Vec<usize>> {
+    let tag = |pair: &[u8]| u32::from_le_bytes([pair[4], pair[5], pair[6], pair[7]]);
+    let person = |pair| job.people.iter().position(|person| person.tag == tag(pair));
+    crew.chunks(STEP_BYTES).map(person).collect()
 }
 
 fn crew_of(job: &Job, plan: &Plan) -> Vec<u8> {
@@ -74,8 +72,11 @@ fn spare_of(job: &Job, (count, away): (usize, u64)) -> Vec<u8> {
     spare_bytes(count, &tags)
 }
 
-/// An unfinished search agrees with a plan and with none.
+/// An unfinished search agrees with a plan and with none, and a late call with all.
 fn agrees<T>(answer: &Answer, found: Found<T>, bytes: impl Fn(T) -> Vec<u8>) -> bool {
+    let Some(answer) = answer else {
+        return true;
+    };
     match found {
         Found::Some(found) => *answer == (0, bytes(found)),
         Found::None => answer.0 == NO_PLAN * 256,
@@ -84,18 +85,27 @@ fn agrees<T>(answer: &Answer, found: Found<T>, bytes: impl Fn(T) -> Vec<u8>) -> 
 }
 
 /// Whether a crew that was written is valid; what no search finished is known to be right so far.
-fn is_sound((number, crew): &Answer, job: &Job) -> bool {
-    let tag = |pair: &[u8]| u32::from_le_bytes([pair[4], pair[5], pair[6], pair[7]]);
-    let person = |pair| job.people.iter().position(|person| person.tag == tag(pair));
-    let plan: Option<Vec<usize>> = crew.chunks(STEP_BYTES).map(person).collect();
-    *number != 0 || plan.is_some_and(|plan| is_valid(job, &plan))
+fn is_sound(answer: &Answer, job: &Job) -> bool {
+    let Some((0, crew)) = answer else {
+        return true;
+    };
+    people_of(job, crew).is_some_and(|plan| is_valid(job, &plan))
 }
 
-pub fn measure(job: &Job, limit: Duration) -> Measured {
-    let sheet = lay(job).bytes;
-    let (crew_answer, crew) = called(STEP_BYTES * job.steps.len(), |area| library::crew(&sheet, area));
-    let (spare_answer, spare_time) = called(SPARE_BYTES, |area| library::spare(&sheet, area, CAP as u32));
+fn has_plan(answer: &Answer, found: Found<Plan>) -> Option<bool> {
+    match (answer, found) {
+        (Some((number, _)), _) => Some(*number == 0),
+        (None, Found::Some(_)) => Some(true),
+        (None, Found::None) => Some(false),
+        (None, Found::Unfinished) => None,
+    }
+}
 
+pub fn measure(worker: &mut Worker, job: &Job, limits: Limits) -> io::Result<Measured> {
+    let (crew_answer, crew) = called(worker, Call::Crew, job, limits.library)?;
+    let (spare_answer, spare_time) = called(worker, Call::Spare { cap: CAP as u32 }, job, limits.library)?;
+
+    let limit = limits.hand;
     let (found_first, first) = searched(limit, |until| plan(&Problem::new(job), 0, Order::Chain, until));
     let (found_any, exists) = searched(limit, |until| plan(&Problem::new(job), 0, Order::Fewest, until));
     let (found_spare, hand_spare) = searched(limit, |until| spare(&Problem::new(job), CAP, until));
@@ -112,12 +122,22 @@ pub fn measure(job: &Job, limit: Duration) -> Measured {
     if !agrees(&crew_answer, found_first, |plan| crew_of(job, &plan)) {
         differences.push("first plan");
     }
-    if !agrees(&crew_answer, found_any, |_| crew_answer.1.clone()) {
+    if !agrees(&crew_answer, found_any, |_| crew_answer.clone().map_or(vec![], |answer| answer.1)) {
         differences.push("existence");
     }
     if !agrees(&spare_answer, found_spare, |found| spare_of(job, found)) {
         differences.push("spare count");
     }
-    let has_plan = crew_answer.0 == 0;
-    Measured { has_plan, rules: job.rules.len(), crew, first, exists, spare: spare_time, hand_spare, differences }
+    Ok(Measured {
+        steps: job.steps.len(),
+        people: job.people.len(),
+        rules: job.rules.len(),
+        has_plan: has_plan(&crew_answer, found_any),
+        crew,
+        first,
+        exists,
+        spare: spare_time,
+        hand_spare,
+        differences,
+    })
 }

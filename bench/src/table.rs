@@ -1,20 +1,21 @@
 //! The figures of a group: the plain table, and a line a sheet for the file.
 
-use crate::measure::{Measured, Nanos};
+use crate::clock::Nanos;
+use crate::measure::Measured;
 
 /// Which of the times of a sheet.
 type Column = fn(&Measured) -> Nanos;
 
 /// Median, 99th percentile and worst in microseconds, and how many did not finish.
-struct Figures {
-    median: f64,
-    high: f64,
-    worst: f64,
-    unfinished: usize,
+pub struct Figures {
+    pub median: f64,
+    pub high: f64,
+    pub worst: f64,
+    pub unfinished: usize,
 }
 
 /// A sheet that did not finish counts as slower than all others, so that no figure looks better for it.
-fn figures(times: impl Iterator<Item = Nanos>) -> Figures {
+pub fn figures(times: impl Iterator<Item = Nanos>) -> Figures {
     let mut sorted: Vec<f64> = times.map(|time| time.map_or(f64::INFINITY, |nanos| nanos as f64 / 1_000.0)).collect();
     sorted.sort_by(f64::total_cmp);
     let at = |share: f64| sorted[((sorted.len() as f64 * share).ceil() as usize).clamp(1, sorted.len()) - 1];
@@ -26,7 +27,7 @@ fn figures(times: impl Iterator<Item = Nanos>) -> Figures {
     }
 }
 
-fn time(micros: f64) -> String {
+pub fn time(micros: f64) -> String {
     if micros.is_infinite() {
         return "late".to_string();
     }
@@ -40,7 +41,7 @@ pub fn heading() -> String {
 
 fn line(name: &str, search: &str, all: &[Measured], of: Column) -> String {
     let found = figures(all.iter().map(of));
-    let plans = all.iter().filter(|one| one.has_plan).count();
+    let plans = all.iter().filter(|one| one.has_plan == Some(true)).count();
     let times = [found.median, found.high, found.worst].map(|micros| format!("{:>10}", time(micros))).join(" ");
     format!("{name:24} {search:6} {:>6} {plans:>5} {times} {:>5}", all.len(), found.unfinished)
 }
@@ -57,12 +58,22 @@ pub fn lines(name: &str, all: &[Measured]) -> String {
     rows.map(|(search, of)| line(name, search, all, of)).join("\n")
 }
 
-pub const CSV_HEADING: &str = "group,sheet,rules,plan,crew_ns,first_ns,any_ns,spare_ns,hand_spare_ns,differences";
+pub const CSV_HEADING: &str =
+    "group,sheet,steps,people,rules,plan,crew_ns,first_ns,any_ns,spare_ns,hand_spare_ns,differences";
+
+pub fn plan_word(has_plan: Option<bool>) -> &'static str {
+    match has_plan {
+        Some(true) => "yes",
+        Some(false) => "no",
+        None => "",
+    }
+}
 
 /// A time that is missing stands for a search that did not finish.
 pub fn csv_line(name: &str, sheet: u32, one: &Measured) -> String {
     let field = |time: Nanos| time.map_or(String::new(), |nanos| nanos.to_string());
     let times = [one.crew, one.first, one.exists, one.spare, one.hand_spare].map(field).join(",");
-    let plan = if one.has_plan { "yes" } else { "no" };
-    format!("{name},{sheet},{},{plan},{times},{}", one.rules, one.differences.join(" and "))
+    let plan = plan_word(one.has_plan);
+    let size = format!("{},{},{}", one.steps, one.people, one.rules);
+    format!("{name},{sheet},{size},{plan},{times},{}", one.differences.join(" and "))
 }

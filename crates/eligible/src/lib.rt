@@ -18,7 +18,7 @@ ghost use Rattle.eligible.specs.Rules.{Says, ruleOf, Marked, AllPossible
 const STEPS: usize = 12;
 
 // The least count of a rule.
-fn least(kind: u8, limit: u8) -> u8
+pub fn least(kind: u8, limit: u8) -> u8
     ensures { λ r. ⌜ r ≡ lowestCount (kindIn kind) limit ⌝ }
 {
     if kind >= 4 {
@@ -31,7 +31,7 @@ fn least(kind: u8, limit: u8) -> u8
 }
 
 // The greatest count of a rule.
-fn most(kind: u8, limit: u8, steps: usize) -> usize
+pub fn most(kind: u8, limit: u8, steps: usize) -> usize
     ensures { λ r. ⌜ r ≡ highest (kindIn kind) limit steps ⌝ }
 {
     if kind <= 1 {

@@ -1,8 +1,11 @@
 // The first plan: a plan is taken, and for each step in turn somebody earlier is looked for, until
 // there is nobody, with the steps before fixed.
+use backtrack::Tried;
+use backtrack::attempt;
 use levels::Size;
 use search::choose::weights;
 use search::exists::exists;
+use search::thorough::thorough;
 ghost use mathlib.Core.Path.{_≡_};
 ghost use Prim.Native.Nat.{_+_, _<_};
 ghost use lib.ListN.{length};
@@ -10,6 +13,9 @@ ghost use Rattle.workflow.specs.First.{firstPlan};
 ghost use Rattle.pattern.specs.Tables.{mayIn, planIn, jobIn};
 ghost use Rattle.levels.specs.Given.{Given};
 ghost use Rattle.first.specs.Settle.{Standing, Bettering, Settled, answer};
+
+// How many rules the search over people may look at.
+const EFFORT: u32 = 500;
 
 // An answer: whether there is a valid plan, and then the first one, a person for each step.
 pub struct Found {
@@ -73,8 +79,8 @@ fn settle(
     }
 }
 
-// The first plan.
-pub fn first_plan(
+// The first plan, from any plan on.
+fn from_any(
     size: Size,
     class: &[u8; 192],
     kind: &[u8; 64],
@@ -90,7 +96,7 @@ pub fn first_plan(
 {
     let mut weight = weights(size.steps, size.rules, scope);
     let mut plan = [0u8; 12];
-    if !exists(
+    if !thorough(
         size,
         class,
         kind,
@@ -125,5 +131,51 @@ pub fn first_plan(
     Found {
         found: true,
         plan: plan,
+    }
+}
+
+// The first plan. Most jobs have it by the search over people.
+pub fn first_plan(
+    size: Size,
+    class: &[u8; 192],
+    kind: &[u8; 64],
+    level: &[u8; 64],
+    limit: &[u8; 64],
+    scope: &[u16; 64],
+    may: &[u64; 12],
+) -> Found
+    requires { ⌜ Given (size .steps) (size .people) (size .levels) (size .rules) (now class) (now kind) (now level) (now limit) (now scope)
+        × (length (now may) ≡ 12) ⌝ }
+    ensures { λ r. ⌜ firstPlan (jobIn (size .steps) (size .people) (size .levels) (now (class .entry)) (size .rules) (now (kind .entry)) (now (level .entry)) (now (limit .entry)) (now (scope .entry)))
+        (mayIn (now (may .entry))) ≡ answer (size .steps) (r .found) (r .plan) ⌝ }
+{
+    let mut plan = [0u8; 12];
+    let tried = attempt(
+        size,
+        class,
+        kind,
+        level,
+        limit,
+        scope,
+        may,
+        EFFORT,
+        &mut plan,
+    );
+    match tried {
+        Tried::Found => {
+            return Found {
+                found: true,
+                plan: plan,
+            };
+        }
+        Tried::Unsatisfiable => {
+            return Found {
+                found: false,
+                plan: plan,
+            };
+        }
+        Tried::Tired => {
+            return from_any(size, class, kind, level, limit, scope, may);
+        }
     }
 }

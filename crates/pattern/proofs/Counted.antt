@@ -17,11 +17,11 @@ use Rattle.pattern.proofs.Same.{distinct-scope-cong}
 use Rattle.pattern.proofs.Place.{with-own, with-old, with-cases, grown-placed, grown-pattern}
 
 -- the whole is the part and s
-record Adds (n : ℕ) (part whole : ℕ → Bool) (s : ℕ) : Type 0 where
-  below : s < n
-  lacks : part s ≡ false
-  has : whole s ≡ true
-  others : (u : ℕ) → (u ≡ s → ⊥) → part u ≡ whole u
+pub record Adds (n : ℕ) (part whole : ℕ → Bool) (s : ℕ) : Type 0 where
+  pub below : s < n
+  pub lacks : part s ≡ false
+  pub has : whole s ≡ true
+  pub others : (u : ℕ) → (u ≡ s → ⊥) → part u ≡ whole u
 
 module _ (n bound : ℕ) (part whole : ℕ → Bool) (c : ℕ → ℕ) (s : ℕ) (adds : Adds n part whole s)
     (bounded : (u : ℕ) → u < n → whole u ≡ true → c u < bound) where
@@ -45,7 +45,7 @@ module _ (n bound : ℕ) (part whole : ℕ → Bool) (c : ℕ → ℕ) (s : ℕ)
       (λ x. occurs-of part c n v (w .0) (w .1) (adds .others (w .0) (eqb-false (w .0) s x) ∙ w .2) (w .3)))
 
   -- s has a class of the part
-  distinct-joins : (u : ℕ) → u < n → part u ≡ true → c u ≡ c s → distinct n whole c ≡ distinct n part c
+  pub distinct-joins : (u : ℕ) → u < n → part u ≡ true → c u ≡ c s → distinct n whole c ≡ distinct n part c
   distinct-joins u l h e =
       by-whole
       ∙ count-cong bound (occurs n whole c) (occurs n part c)
@@ -56,7 +56,7 @@ module _ (n bound : ℕ) (part whole : ℕ → Bool) (c : ℕ → ℕ) (s : ℕ)
       ∙ sym by-part
 
   -- s has a class of its own
-  distinct-new : ((u : ℕ) → u < n → part u ≡ true → c u ≡ c s → ⊥) → distinct n whole c ≡ suc (distinct n part c)
+  pub distinct-new : ((u : ℕ) → u < n → part u ≡ true → c u ≡ c s → ⊥) → distinct n whole c ≡ suc (distinct n part c)
   distinct-new d =
       by-whole
       ∙ count-insert bound (occurs n part c) (occurs n whole c) (c s) (bounded s (adds .below) (adds .has))

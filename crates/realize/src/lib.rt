@@ -2,7 +2,7 @@
 // The tables are those of the search: `class` has 64 entries a level and names each class by its
 // first person, `may` has a mask of people for each step, `label` has 12 entries a level.
 mod decision;
-mod parts;
+pub mod parts;
 mod plan;
 
 use crate::decision::decide;

@@ -1,29 +1,27 @@
 -- Plans that do without people, and the words that say so. Assumes nothing.
 use mathlib.Core.Bool.{Bool, true, false, cond, not, _&&_, _||_}
-use mathlib.Core.List.{List, [], _∷_}
+use mathlib.Core.List.{List}
 use mathlib.Core.Path.{_≡_, refl, sym, subst, ap, _∙_}
-use Prim.Native.Nat.{ℕ, zero, suc, _+_, _*_, _^_, _≤_, _<_}
+use Prim.Native.Nat.{ℕ, _+_, _≤_, _<_}
 use native.Mathlib.Omega.{arith}
-use native.Mathlib.Nat.{not-suc-le-zero, pow-suc}
+use native.Mathlib.Nat.{not-suc-le-zero}
 use native.Mathlib.Numerals.{add-one}
 use lib.Bits.{bitAnd, bitOr, bitXor}
-use lib.Count.{trailingZeros}
 use lib.Dec.{eqb}
 use lib.ListN.{length, getD, set, length-set, replicate, getD-replicate}
 use lib.Seq.{getD-set-same, getD-set-other}
-use borrow.Author.Tests.{eqb-true, eqb-false, ne-eqb}
+use borrow.Author.Tests.{eqb-true, eqb-false}
 use Rattle.bits.specs.Word.{hasBit}
 use Rattle.bits.specs.Set.{unlike, Added, Removed}
 use Rattle.bits.proofs.Below.{by-cases, true-false, below-suc, and-left}
 use Rattle.bits.proofs.Counting.{and-of}
-use Rattle.bits.proofs.SetLaws.{and-bit-left, and-bit-right, or-bit, xor-bit, empty-lacks, trailing-lowest, added-has, added-keeps, added-other, removed-lacks, removed-other}
-use Rattle.workflow.specs.Problem.{Job, May, Plan, Valid, Satisfiable}
+use Rattle.bits.proofs.SetLaws.{and-bit, and-bit-left, or-bit, xor-bit, empty-lacks, full-has, added-has, added-keeps, added-other, removed-lacks, removed-other, removed-was}
+use Rattle.workflow.specs.Problem.{Job, May, Plan, Valid}
 use Rattle.workflow.proofs.Valid.{valid-mono, satisfiable-mono}
 use Rattle.search.specs.Existence.{Existence}
 use Rattle.pattern.specs.Tables.{mayIn, planIn}
-use Rattle.resiliency.specs.Away.{without, member}
-use Rattle.resiliency.specs.Known.{Remaining, Uses, Noted, Known, Stood}
-use Rattle.resiliency.proofs.Breaking.{fewer-away}
+use Rattle.resiliency.specs.Away.{without}
+use Rattle.resiliency.specs.Known.{Remaining, Uses, Noted, Known, Kept, Needed, Stood}
 
 -- ---- the masks of the steps without the people away
 
@@ -109,6 +107,30 @@ module _ (mask slot : ℕ) (known : List ℕ) where
   pub noted-all : (n : ℕ) (words : List ℕ) → n ≤ 64 → 64 ≤ n → Noted mask slot n known words → Noted mask slot 64 known words
   noted-all n words a b k = let e : n ≡ 64 = omega arith in subst (λ (x : ℕ). Noted mask slot x known words) e k
 
+-- everyone's mask
+pub everyone-has : (p : ℕ) → p < 64 → hasBit 18446744073709551615 p ≡ true
+everyone-has p l = full-has 64 p l
+
+-- nothing is kept, and the plan counts as one that needs everyone
+pub kept-nothing : (keeping : Bool) {steps slot : ℕ} {plan known plans : List ℕ} → keeping ≡ false → ((s : ℕ) → s < steps → getD plan s 0 < 64)
+    → Kept keeping steps plan 18446744073709551615 slot known plans known plans
+kept-nothing keeping {plan = plan} e l =
+    record {
+      needs = record { each = λ s b. everyone-has (planIn plan s) (l s b) };
+      noted = λ t. true-false t e;
+      dropped = λ t. (refl, refl);
+    }
+
+-- a plan goes into its slot
+pub kept-plan : (keeping : Bool) {steps slot mask : ℕ} {plan known known′ plans : List ℕ} → keeping ≡ true → Uses steps plan mask
+    → Noted mask slot 64 known known′ → Kept keeping steps plan mask slot known plans known′ (set plans slot mask)
+kept-plan keeping e u n = record { needs = u; noted = λ t. (n, refl); dropped = λ t. true-false e t }
+
+-- a test of two that fails where the first holds
+pub and-other : (a b : Bool) → a ≡ true → a && b ≡ false → b ≡ false
+and-other true b h t = t
+and-other false b h t = true-false h refl
+
 module _ (j : Job) (may : May) where
   -- a valid plan that does without the people away is one among the others, and back
   pub valid-without : (away : ℕ → Bool) (π : Plan) → Valid j may π → ((s : ℕ) → s < j .steps → away (π s) ≡ false) → Valid j (without may away) π
@@ -118,83 +140,72 @@ module _ (j : Job) (may : May) where
   pub without-valid : (away : ℕ → Bool) (π : Plan) → Valid j (without may away) π → Valid j may π
   without-valid away π v = valid-mono j (without may away) may π (λ s p l m t. and-left (may s p) _ t) v
 
-  -- one valid plan is enough to begin with
-  pub known-zero : (π : Plan) → Valid j may π → Known j may (replicate {A = ℕ} 64 0)
-  known-zero π v =
+  -- before any plan is kept one valid plan is enough: every mask has everyone
+  pub known-zero : (π : Plan) → Valid j may π → j .people ≤ 64 → Known j may (replicate {A = ℕ} 64 0) (replicate {A = ℕ} 64 18446744073709551615)
+  known-zero π v l =
       record {
         sized = refl;
+        masks = refl;
         plan = λ i. π;
         valid = λ i. v;
-        spares = λ i p l t. true-false t (rw (getD-replicate {A = ℕ} 64 p 0 0 l) (empty-lacks i));
+        people = λ i s b m. rw (getD-replicate {A = ℕ} 64 i 18446744073709551615 0 b) (everyone-has (π s) (omega (arith, v .within s m)));
+        spares = λ i p b m t. true-false t (rw (getD-replicate {A = ℕ} 64 p 0 0 m) (empty-lacks i));
       }
 
   -- a plan found goes into its slot
-  pub known-noted : (plan known known′ : List ℕ) (mask slot : ℕ) → Known j may known → Valid j may (planIn plan) → Uses (j .steps) plan mask
-      → Noted mask slot 64 known known′ → Known j may known′
-  known-noted plan known known′ mask slot k v u n =
+  known-noted : (plan known known′ plans : List ℕ) (mask slot : ℕ) → Known j may known plans → Valid j may (planIn plan) → Uses (j .steps) plan mask
+      → slot < 64 → Noted mask slot 64 known known′ → Known j may known′ (set plans slot mask)
+  known-noted plan known known′ plans mask slot k v u l n =
+      let z = k .masks in
+      let at : getD (set plans slot mask) slot 0 ≡ mask = getD-set-same plans slot mask 0 (omega arith) in
       record {
         sized = n .sized;
+        masks = length-set plans slot mask ∙ z;
         plan = λ i. cond (eqb i slot) (planIn plan) (k .plan i);
         valid = λ i. by-cases (eqb i slot) (λ t. rw t v) (λ t. rw t (k .valid i));
-        spares = λ i p l t s b.
+        people = λ i s b m.
             by-cases (eqb i slot)
-            (λ e. rw e (λ d. true-false (u .each s b)
-            (rw d (n .own p l (subst (λ (x : ℕ). hasBit (getD known′ p 0) x ≡ true) (eqb-true i slot e) t)))))
-            (λ e. rw e (k .spares i p l (sym (n .others p i (eqb-false i slot e)) ∙ t) s b));
+            (λ t. rw t (subst (λ (x : ℕ). hasBit (getD (set plans slot mask) x 0) (planIn plan s) ≡ true) (sym (eqb-true i slot t)) (rw at (u .each s m))))
+            (λ t. rw (t, getD-set-other plans slot i mask 0 (eqb-false i slot t)) (k .people i s b m));
+        spares = λ i p b m t.
+            by-cases (eqb i slot)
+            (λ e. subst (λ (x : ℕ). hasBit (getD (set plans slot mask) x 0) p ≡ false) (sym (eqb-true i slot e))
+            (rw at (n .own p m (subst (λ (x : ℕ). hasBit (getD known′ p 0) x ≡ true) (eqb-true i slot e) t))))
+            (λ e. rw (getD-set-other plans slot i mask 0 (eqb-false i slot e)) (k .spares i p b m (sym (n .others p i (eqb-false i slot e)) ∙ t)));
       }
 
--- a number below a power of two
-below-pow : (n : ℕ) → n < 2 ^ n
-below-pow zero = omega arith
-below-pow (suc n) = let r : n < 2 ^ n = below-pow n in let e : 2 ^ suc n ≡ 2 ^ n * 2 = pow-suc 2 n in omega arith
+  -- whether plans are kept or not
+  pub known-kept : (keeping : Bool) (plan known known′ plans plans′ : List ℕ) (mask slot : ℕ) → Known j may known plans → Valid j may (planIn plan)
+      → slot < 64 → Kept keeping (j .steps) plan mask slot known plans known′ plans′ → Known j may known′ plans′
+  known-kept keeping plan known known′ plans plans′ mask slot k v l h =
+      by-cases keeping
+      (λ t. subst (Known j may known′) (sym (h .noted t .1)) (known-noted plan known known′ plans mask slot k v (h .needs) l (h .noted t .0)))
+      (λ t. subst (Known j may known′) (sym (h .dropped t .1)) (subst (λ (x : List ℕ). Known j may x plans) (sym (h .dropped t .0)) k))
 
--- a word that is not 0 has a bit
-pub some-bit : (x : ℕ) → (x ≡ 0 → ⊥) → (i : ℕ) × (hasBit x i ≡ true)
-some-bit x h = (trailingZeros x x, trailing-lowest x x (below-pow x) h .has)
+-- ---- the people whom the plans of a word need
 
--- a set that a known plan does without
-pub known-stands : (j : Job) (may : May) (known : List ℕ) (a b c : ℕ) → Known j may known → a < 64 → b < 64 → c < 64
-    → (bitAnd (bitAnd (getD known a 0) (getD known b 0)) (getD known c 0) ≡ 0 → ⊥) → Satisfiable j (without may (member (a ∷ b ∷ c ∷ [])))
-unfolding member
-known-stands j may known a b c k la lb lc h =
-    let w = some-bit _ h in
-    let ab : hasBit (bitAnd (getD known a 0) (getD known b 0)) (w .0) ≡ true = and-bit-left _ (getD known c 0) (w .0) (w .1) in
-    let ha : hasBit (getD known a 0) (w .0) ≡ true = and-bit-left _ (getD known b 0) (w .0) ab in
-    let hb : hasBit (getD known b 0) (w .0) ≡ true = and-bit-right (getD known a 0) _ (w .0) ab in
-    let hc : hasBit (getD known c 0) (w .0) ≡ true = and-bit-right (bitAnd (getD known a 0) (getD known b 0)) _ (w .0) (w .1) in (
-      k .plan (w .0),
-      valid-without j may (member (a ∷ b ∷ c ∷ [])) (k .plan (w .0)) (k .valid (w .0))
-          (λ s l. rw (
-            ne-eqb (k .plan (w .0) s) a (k .spares (w .0) a la ha s l),
-            ne-eqb (k .plan (w .0) s) b (k .spares (w .0) b lb hb s l),
-            ne-eqb (k .plan (w .0) s) c (k .spares (w .0) c lc hc s l),
-          ) refl),
-    )
+module _ (word : ℕ) (plans : List ℕ) (among : ℕ) where
+  pub needed-start : Needed word plans among among
+  needed-start = record { part = λ p h. h; lacks = λ p h t. true-false h t }
 
--- the mask of three people
-pub mask-three : (a b c x y z : ℕ) → Added 0 a x → Added x b y → Added y c z → (p : ℕ) → hasBit z p ≡ member (a ∷ b ∷ c ∷ []) p
-unfolding member
-mask-three a b c x y z ax by cz p =
-    cz .each p
-    ∙ ap (λ (t : Bool). t || eqb p c) (by .each p ∙ ap (λ (t : Bool). t || eqb p b) (ax .each p ∙ ap (λ (t : Bool). t || eqb p a) (empty-lacks p)))
-    ∙ cases (eqb p a) (eqb p b) (eqb p c)
-  where
-    cases : (u v w : Bool) → (u || v) || w ≡ u || (v || (w || false))
-    cases true v w = refl
-    cases false true w = refl
-    cases false false true = refl
-    cases false false false = refl
+  -- one more plan of the word
+  pub needed-more : (rest i : ℕ) → i < 64 → hasBit word i ≡ true → Needed word plans among rest
+      → Needed word plans among (bitAnd rest (getD plans i 0))
+  needed-more rest i l w n =
+      record {
+        part = λ p h. n .part p (and-bit-left rest (getD plans i 0) p h);
+        lacks = λ p h t.
+            by-cases (hasBit rest p)
+            (λ r. (i, l, w, and-other (hasBit rest p) _ r (sym (and-bit rest (getD plans i 0) p) ∙ t)))
+            (λ r. n .lacks p h r);
+      }
 
--- the same question of the same set
-pub stood-same : (j : Job) (may : May) (away away′ : ℕ → Bool) (words weight : List ℕ) (r : Bool) → ((p : ℕ) → away p ≡ away′ p)
-    → Stood j may away words weight r → Stood j may away′ words weight r
-stood-same j may away away′ words weight r e s =
-    record {
-      known = s .known;
-      weights = s .weights;
-      won = λ t. fewer-away j may away away′ (λ p l h. e p ∙ h) (s .won t);
-      lost = λ t w. s .lost t (fewer-away j may away′ away (λ p l h. sym (e p) ∙ h) w);
-    }
+-- the plans still to be taken are of the word
+abbrev pub Part : ℕ → ℕ → Type 0
+Part left word = (i : ℕ) → hasBit left i ≡ true → hasBit word i ≡ true
+
+pub part-next : (word : ℕ) {left left′ i : ℕ} → Part left word → Removed left i left′ → Part left′ word
+part-next word h d i l = h i (removed-was d i l)
 
 -- ---- a search among the people left
 
@@ -204,8 +215,8 @@ pub found-people : {j : Job} {may : May} {plan plan′ : List ℕ} {r : Bool} �
 found-people {plan′ = plan′} x e l s b = let w : planIn plan′ s < _ = x .won e .within s b in omega arith
 
 module _ {j : Job} {may rest : List ℕ} {away : ℕ} {plan plan′ : List ℕ} {r : Bool} where
-  pub searched-lost : {words weight : List ℕ} → Known j (mayIn may) words → Remaining may away 12 rest → j .steps ≤ 12
-      → Existence j (mayIn rest) plan plan′ r → r ≡ false → length weight ≡ 12 → Stood j (mayIn may) (hasBit away) words weight false
+  pub searched-lost : {words plans weight : List ℕ} {needs : ℕ} → Known j (mayIn may) words plans → Remaining may away 12 rest → j .steps ≤ 12
+      → Existence j (mayIn rest) plan plan′ r → r ≡ false → length weight ≡ 12 → Stood j (mayIn may) (hasBit away) words plans weight false needs
   searched-lost k m l x e w =
       record {
         known = k;
@@ -214,33 +225,18 @@ module _ {j : Job} {may rest : List ℕ} {away : ℕ} {plan plan′ : List ℕ} 
         lost = λ t v. x .lost e (satisfiable-mono j (without (mayIn may) (hasBit away)) (mayIn rest) (λ s p b c h. m .each s p (omega arith) ∙ h) v);
       }
 
-  pub searched-won : {words words′ weight : List ℕ} {mask slot : ℕ} → Known j (mayIn may) words → Remaining may away 12 rest → j .steps ≤ 12
-      → Existence j (mayIn rest) plan plan′ r → r ≡ true → Uses (j .steps) plan′ mask → Noted mask slot 64 words words′
-      → length weight ≡ 12 → Stood j (mayIn may) (hasBit away) words′ weight true
-  searched-won {words} {words′} {mask = mask} {slot} k m l x e u n w =
+  pub searched-won : (keeping : Bool) {words words′ plans plans′ weight : List ℕ} {mask slot : ℕ} → Known j (mayIn may) words plans
+      → Remaining may away 12 rest → j .steps ≤ 12 → Existence j (mayIn rest) plan plan′ r → r ≡ true → slot < 64
+      → Kept keeping (j .steps) plan′ mask slot words plans words′ plans′
+      → length weight ≡ 12 → Stood j (mayIn may) (hasBit away) words′ plans′ weight true mask
+  searched-won keeping {words} {words′} {plans} {plans′} {mask = mask} {slot} k m l x e b u w =
       let v : Valid j (without (mayIn may) (hasBit away)) (planIn plan′)
       = valid-mono j (mayIn rest) (without (mayIn may) (hasBit away)) (planIn plan′) (λ s p b c h. sym (m .each s p (omega arith)) ∙ h) (x .won e)
       in
       record {
-        known = known-noted j (mayIn may) plan′ words words′ mask slot k (without-valid j (mayIn may) (hasBit away) (planIn plan′) v) u n;
+        known = known-kept j (mayIn may) keeping plan′ words words′ plans plans′ mask slot k
+            (without-valid j (mayIn may) (hasBit away) (planIn plan′) v) b u;
         weights = w;
-        won = λ t. (planIn plan′, v);
+        won = λ t. (planIn plan′, v, u .needs .each);
         lost = λ t. true-false refl t;
       }
-
--- a known plan does without them
-pub stood-known : {j : Job} {may : May} {words weight : List ℕ} (a b c : ℕ) → Known j may words → a < 64 → b < 64 → c < 64 → length weight ≡ 12
-    → (bitAnd (bitAnd (getD words a 0) (getD words b 0)) (getD words c 0) ≡ 0 → ⊥) → Stood j may (member (a ∷ b ∷ c ∷ [])) words weight true
-stood-known {j} {may} {words} a b c k la lb lc w h =
-    record {
-      known = k;
-      weights = w;
-      won = λ t. known-stands j may words a b c k la lb lc h;
-      lost = λ t. true-false refl t;
-    }
-
--- the search of the mask of three people
-pub stood-three : {j : Job} {may : May} {words weight : List ℕ} {r : Bool} {a b c x y z : ℕ} → Added 0 a x → Added x b y → Added y c z
-    → Stood j may (hasBit z) words weight r → Stood j may (member (a ∷ b ∷ c ∷ [])) words weight r
-stood-three {j} {may} {words} {weight} {r} {a} {b} {c} {x} {y} {z} ax by cz s =
-    stood-same j may (hasBit z) (member (a ∷ b ∷ c ∷ [])) words weight r (mask-three a b c x y z ax by cz) s

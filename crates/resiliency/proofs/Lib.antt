@@ -5,6 +5,7 @@ pub mod Examples
 pub mod Answered
 pub mod Knowing
 pub mod Walking
+pub mod Lasts
 pub mod Turns
 pub mod Sizes
 pub mod Posed

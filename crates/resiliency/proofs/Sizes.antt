@@ -5,7 +5,7 @@ use mathlib.Core.Logic.{inl, inr}
 use denote.Enum.Declared
 use types.Run.{OneOf}
 use mathlib.Core.Path.{_≡_, refl, sym, ap, subst, _∙_}
-use Prim.Native.Nat.{ℕ, zero, suc, _≤_}
+use Prim.Native.Nat.{ℕ, zero, suc, _≤_, _<_}
 use native.Mathlib.Omega.{arith}
 use lib.ListN.{replicate}
 use borrow.Author.Tests.{not-true}
@@ -17,11 +17,11 @@ use Rattle.pattern.specs.Tables.{planIn}
 use Rattle.search.specs.Existence.{Existence}
 use Rattle.resiliency.specs.Away.{without, Resilient, member, Group, FirstBreaking}
 use Rattle.resiliency.specs.Count.{Spare, unsatisfiable, capped, broken, endsAt, firstBreaking, walk, spare, IsSpare}
-use Rattle.resiliency.specs.Known.{Known, Uses, Noted, Walked, told}
+use Rattle.resiliency.specs.Known.{Known, Kept, Walked, told}
 use Rattle.resiliency.proofs.Spared.{the-type}
 use Rattle.resiliency.specs.declared.Spared.{Spared}
 use Rattle.resiliency.specs.declared.Spared.the-variants.{Unsatisfiable, Capped, One, Two, Three}
-use Rattle.resiliency.proofs.Knowing.{known-zero, known-noted, valid-without, without-valid}
+use Rattle.resiliency.proofs.Knowing.{known-zero, known-kept, valid-without, without-valid}
 use Rattle.resiliency.proofs.Laws.{spare-is-spare, spare-unique}
 
 -- the other variants are not `Capped`
@@ -56,42 +56,42 @@ after-none j may cap e = rw e (walk-none j may 0)
 
 module _ {j : Job} {may : May} where
   -- the walk from t on, where the groups of t + 1 are gone through
-  pub walk-goes-on : (left t : ℕ) {words weight : List ℕ} {r : Spared} → Walked j may t words weight r → r ≡ Capped
+  pub walk-goes-on : (left t : ℕ) {words plans weight : List ℕ} {r : Spared} → Walked j may t words plans weight r → r ≡ Capped
       → walk j may (suc left) t ≡ walk j may left (suc t)
   unfolding walk
   walk-goes-on left t w e = rw (endsAt-capped t (firstBreaking j may (suc t)) (sym (ap told e) ∙ w .answer)) refl
 
-  pub walk-ends : (left t : ℕ) {words weight : List ℕ} {r : Spared} → Walked j may t words weight r → (told r ≡ capped → ⊥)
+  pub walk-ends : (left t : ℕ) {words plans weight : List ℕ} {r : Spared} → Walked j may t words plans weight r → (told r ≡ capped → ⊥)
       → told r ≡ walk j may (suc left) t
   unfolding walk
   walk-ends left t {r = r} w d = endsAt-other t (firstBreaking j may (suc t)) (told r) (walk j may left (suc t)) d (w .answer)
 
   -- the last size
-  pub walk-last : (t : ℕ) {words weight : List ℕ} {r : Spared} → Walked j may t words weight r → told r ≡ walk j may 1 t
+  pub walk-last : (t : ℕ) {words plans weight : List ℕ} {r : Spared} → Walked j may t words plans weight r → told r ≡ walk j may 1 t
   unfolding walk
   walk-last t w = w .answer
 
   -- the cap is reached, or a group is found, after one size, two and three
-  pub found-one : (cap : ℕ) {words weight : List ℕ} {r : Spared} → (cap ≡ 0 → ⊥) → Walked j may 0 words weight r → (told r ≡ capped → ⊥)
+  pub found-one : (cap : ℕ) {words plans weight : List ℕ} {r : Spared} → (cap ≡ 0 → ⊥) → Walked j may 0 words plans weight r → (told r ≡ capped → ⊥)
       → told r ≡ walk j may cap 0
   found-one zero z w d = absurd (z refl)
   found-one (suc cap) z w d = walk-ends cap 0 w d
 
-  pub after-one : (cap : ℕ) {words weight : List ℕ} {r : Spared} → cap ≡ 1 → Walked j may 0 words weight r → r ≡ Capped → capped ≡ walk j may cap 0
+  pub after-one : (cap : ℕ) {words plans weight : List ℕ} {r : Spared} → cap ≡ 1 → Walked j may 0 words plans weight r → r ≡ Capped → capped ≡ walk j may cap 0
   after-one cap e w h = rw e (walk-none j may 1 ∙ sym (walk-goes-on 0 0 w h))
 
-  pub found-two : (cap : ℕ) {words weight words′ weight′ : List ℕ} {r q : Spared} → (cap ≡ 0 → ⊥) → (cap ≡ 1 → ⊥) → Walked j may 0 words weight r → r ≡ Capped
-      → Walked j may 1 words′ weight′ q → (told q ≡ capped → ⊥) → told q ≡ walk j may cap 0
+  pub found-two : (cap : ℕ) {words plans weight words′ plans′ weight′ : List ℕ} {r q : Spared} → (cap ≡ 0 → ⊥) → (cap ≡ 1 → ⊥) → Walked j may 0 words plans weight r → r ≡ Capped
+      → Walked j may 1 words′ plans′ weight′ q → (told q ≡ capped → ⊥) → told q ≡ walk j may cap 0
   found-two zero z o w h x d = absurd (z refl)
   found-two (suc zero) z o w h x d = absurd (o refl)
   found-two (suc (suc cap)) z o w h x d = walk-ends cap 1 x d ∙ sym (walk-goes-on (suc cap) 0 w h)
 
-  pub after-two : (cap : ℕ) {words weight words′ weight′ : List ℕ} {r q : Spared} → cap ≡ 2 → Walked j may 0 words weight r → r ≡ Capped
-      → Walked j may 1 words′ weight′ q → q ≡ Capped → capped ≡ walk j may cap 0
+  pub after-two : (cap : ℕ) {words plans weight words′ plans′ weight′ : List ℕ} {r q : Spared} → cap ≡ 2 → Walked j may 0 words plans weight r → r ≡ Capped
+      → Walked j may 1 words′ plans′ weight′ q → q ≡ Capped → capped ≡ walk j may cap 0
   after-two cap e w h x k = rw e (walk-none j may 2 ∙ sym (walk-goes-on 0 1 x k) ∙ sym (walk-goes-on 1 0 w h))
 
-  pub after-three : (cap : ℕ) {words weight words′ weight′ words″ weight″ : List ℕ} {r q p : Spared} → cap ≤ 3 → (cap ≡ 0 → ⊥) → (cap ≡ 1 → ⊥) → (cap ≡ 2 → ⊥)
-      → Walked j may 0 words weight r → r ≡ Capped → Walked j may 1 words′ weight′ q → q ≡ Capped → Walked j may 2 words″ weight″ p
+  pub after-three : (cap : ℕ) {words plans weight words′ plans′ weight′ words″ plans″ weight″ : List ℕ} {r q p : Spared} → cap ≤ 3 → (cap ≡ 0 → ⊥) → (cap ≡ 1 → ⊥) → (cap ≡ 2 → ⊥)
+      → Walked j may 0 words plans weight r → r ≡ Capped → Walked j may 1 words′ plans′ weight′ q → q ≡ Capped → Walked j may 2 words″ plans″ weight″ p
       → told p ≡ walk j may cap 0
   after-three cap l z o t w h x k y =
       let e : cap ≡ 3 = omega arith in rw e (walk-last 2 y ∙ sym (walk-goes-on 1 1 x k) ∙ sym (walk-goes-on 2 0 w h))
@@ -107,10 +107,13 @@ module _ {j : Job} {may : May} where
       found-cases (firstPlan j may) (λ xs d. rw d refl) (λ d. absurd (firstPlan-nothing j may d _ (x .won e)))
 
   -- the first plan is known
-  pub known-first : {plan plan′ words : List ℕ} {r : Bool} {mask slot : ℕ} → Existence j may plan plan′ r → r ≡ true → Uses (j .steps) plan′ mask
-      → Noted mask slot 64 (replicate {A = ℕ} 64 0) words → Known j may words
-  known-first {plan′ = plan′} {words} {mask = mask} {slot} x e u n =
-      known-noted j may plan′ (replicate {A = ℕ} 64 0) words mask slot (known-zero j may (planIn plan′) (x .won e)) (x .won e) u n
+  pub known-first : (keeping : Bool) {plan plan′ words plans : List ℕ} {r : Bool} {mask slot : ℕ} → Existence j may plan plan′ r → r ≡ true
+      → j .people ≤ 64 → slot < 64
+      → Kept keeping (j .steps) plan′ mask slot (replicate {A = ℕ} 64 0) (replicate {A = ℕ} 64 18446744073709551615) words plans
+      → Known j may words plans
+  known-first keeping {plan′ = plan′} {words} {plans} {mask = mask} {slot} x e l b u =
+      known-kept j may keeping plan′ (replicate {A = ℕ} 64 0) words (replicate {A = ℕ} 64 18446744073709551615) plans mask slot
+      (known-zero j may (planIn plan′) (x .won e) l) (x .won e) b u
 
 -- jobs of as many people and steps with the same valid plans have the same spare count
 module _ (j k : Job) (may more : May) (steps : j .steps ≡ k .steps) (people : j .people ≡ k .people)

@@ -1,11 +1,9 @@
 -- The groups of one, two and three people, gone through in crew order. Assumes nothing.
-use mathlib.Core.Bool.{Bool, true, false, _||_}
 use mathlib.Core.List.{List, [], _∷_}
 use mathlib.Core.Path.{_≡_, refl, sym, subst, ap, _∙_}
 use Prim.Native.Nat.{ℕ, zero, suc, _+_, _≤_, _<_}
 use native.Mathlib.Omega.{arith}
 use native.Mathlib.Nat.{not-suc-le-zero}
-use lib.Dec.{eqb}
 use lib.ListN.{length, getD}
 use Rattle.bits.proofs.Below.{below-suc}
 use Rattle.workflow.specs.Problem.{Job, May, Satisfiable}
@@ -13,7 +11,7 @@ use Rattle.workflow.specs.First.{found, nothing, planOf, Earlier}
 use Rattle.workflow.proofs.First.{found-cases}
 use Rattle.resiliency.specs.Away.{without, member, Group, Breaks, FirstBreaking}
 use Rattle.resiliency.specs.Count.{firstBreaking}
-use Rattle.resiliency.proofs.Breaking.{fewer-away, first-breaking, firstBreaking-found, firstBreaking-nothing, firstBreaking-unique}
+use Rattle.resiliency.proofs.Breaking.{first-breaking, firstBreaking-found, firstBreaking-nothing, firstBreaking-unique}
 
 module _ (j : Job) (may : May) where
   -- the others can do the job
@@ -33,52 +31,10 @@ module _ (j : Job) (may : May) where
       (λ ys e. let f = firstBreaking-found j may k ys e in absurd (f .breaks (h ys (f .group))))
       (λ e. e)
 
-  -- one person named thrice, two with one named twice
-  pub once : (a : ℕ) → Stands (a ∷ a ∷ a ∷ []) → Stands (a ∷ [])
-  unfolding member
-  once a = fewer-away j may (member (a ∷ a ∷ a ∷ [])) (member (a ∷ [])) (λ p l. cases (eqb p a))
-    where
-      cases : (u : Bool) → (u || false) ≡ true → (u || (u || (u || false))) ≡ true
-      cases true h = refl
-      cases false h = h
-
-  pub thrice : (a : ℕ) → Stands (a ∷ []) → Stands (a ∷ a ∷ a ∷ [])
-  unfolding member
-  thrice a = fewer-away j may (member (a ∷ [])) (member (a ∷ a ∷ a ∷ [])) (λ p l. cases (eqb p a))
-    where
-      cases : (u : Bool) → (u || (u || (u || false))) ≡ true → (u || false) ≡ true
-      cases true h = refl
-      cases false h = h
-
-  pub second-once : (a b : ℕ) → Stands (a ∷ b ∷ b ∷ []) → Stands (a ∷ b ∷ [])
-  unfolding member
-  second-once a b = fewer-away j may (member (a ∷ b ∷ b ∷ [])) (member (a ∷ b ∷ [])) (λ p l. cases (eqb p a) (eqb p b))
-    where
-      cases : (u v : Bool) → (u || (v || false)) ≡ true → (u || (v || (v || false))) ≡ true
-      cases true v h = refl
-      cases false true h = refl
-      cases false false h = h
-
-  pub second-twice : (a b : ℕ) → Stands (a ∷ b ∷ []) → Stands (a ∷ b ∷ b ∷ [])
-  unfolding member
-  second-twice a b = fewer-away j may (member (a ∷ b ∷ [])) (member (a ∷ b ∷ b ∷ [])) (λ p l. cases (eqb p a) (eqb p b))
-    where
-      cases : (u v : Bool) → (u || (v || (v || false))) ≡ true → (u || (v || false)) ≡ true
-      cases true v h = refl
-      cases false true h = refl
-      cases false false h = h
-
   -- ---- one person
 
   abbrev pub Ones : ℕ → Type 0
   Ones a = (p : ℕ) → p < a → Stands (p ∷ [])
-
-  pub ones-none : Ones 0
-  ones-none p l = absurd (not-suc-le-zero l)
-
-  pub ones-more : (a : ℕ) → Ones a → Stands (a ∷ []) → Ones (a + 1)
-  ones-more a h s p l =
-      let m : p < suc a = omega arith in below-suc a p m (h p) (λ e. subst (λ (x : ℕ). Stands (x ∷ [])) (sym e) s)
 
   group-one : (ys : List ℕ) → Group (j .people) 1 ys → (p : ℕ) × (ys ≡ p ∷ []) × (p < j .people)
   group-one [] g = absurd (let e : 0 ≡ 1 = g .size in omega arith)
@@ -118,13 +74,6 @@ module _ (j : Job) (may : May) where
 
   pub twos-none : Twos 0
   twos-none p q l = absurd (not-suc-le-zero l)
-
-  pub twos-begin : (a : ℕ) → TwosFrom a (a + 1)
-  twos-begin a q l m = absurd (omega arith)
-
-  pub twos-more : (a b : ℕ) → TwosFrom a b → Stands (a ∷ b ∷ []) → TwosFrom a (b + 1)
-  twos-more a b h s q l m =
-      let n : q < suc b = omega arith in below-suc b q n (h q l) (λ e. subst (λ (x : ℕ). Stands (a ∷ x ∷ [])) (sym e) s)
 
   pub twos-next : (a b : ℕ) → j .people ≤ b → Twos a → TwosFrom a b → Twos (a + 1)
   twos-next a b l h k p q m n o =
@@ -186,13 +135,6 @@ module _ (j : Job) (may : May) where
 
   pub threes-begin : (a : ℕ) → ThreesFrom a (a + 1)
   threes-begin a q r l m = absurd (omega arith)
-
-  pub threes-start : (a b : ℕ) → ThreesAt a b (b + 1)
-  threes-start a b r l m = absurd (omega arith)
-
-  pub threes-more : (a b c : ℕ) → ThreesAt a b c → Stands (a ∷ b ∷ c ∷ []) → ThreesAt a b (c + 1)
-  threes-more a b c h s r l m =
-      let n : r < suc c = omega arith in below-suc c r n (h r l) (λ e. subst (λ (x : ℕ). Stands (a ∷ b ∷ x ∷ [])) (sym e) s)
 
   pub threes-after : (a b c : ℕ) → j .people ≤ c → ThreesFrom a b → ThreesAt a b c → ThreesFrom a (b + 1)
   threes-after a b c l h k q r m n o u =

@@ -11,10 +11,11 @@ use Rattle.sheet.specs.declared.Reading.the-variants.{Readable, Refused}
 use Rattle.sheet.proofs.Refusals.{read-sheet-refusal}
 use Rattle.workflow.specs.Problem.{Job, May}
 use Rattle.crew.specs.Bytes.{longBytes, putAt, written}
+use Rattle.crew.specs.Number.{Numbered}
 use Rattle.crew.proofs.Put.{put-next}
 use Rattle.resiliency.specs.Count.{spare, IsSpare}
 use Rattle.resiliency.specs.Known.{told}
-use Rattle.resiliency.specs.Left.{Left, Small, Named}
+use Rattle.resiliency.specs.Left.{Left, Named}
 use Rattle.resiliency.specs.Spare.{awayTags, answered}
 use Rattle.resiliency.specs.declared.Spared.{Spared}
 use Rattle.resiliency.specs.declared.Spared.the-variants.{Unsatisfiable, Capped, One, Two, Three}
@@ -98,13 +99,10 @@ named-spare j may cap r e l = members r (subst (IsSpare j may cap) (sym e) (spar
       omega (arith, h .2 .group .within 2 (omega arith)),
     )
 
--- a reader's refusal is one of the papers
-pub small-refused : {r : Reading} {f k : ℕ} → r ≡ Refused f k → Small r → (f ≤ 12) × (k < 141)
-small-refused e s = subst Small e s
-
-pub small-read : (s : List ℕ) (a : Sheet) → a ≡ sheetOf s → Small (a .reading)
-small-read s a e = rw e (go (sheetOf s .reading) refl)
+-- a reader's refusal has a number
+pub read-numbered : (s : List ℕ) (a : Sheet) → a ≡ sheetOf s → Numbered (a .reading)
+read-numbered s a e = rw e (go (sheetOf s .reading) refl)
   where
-    go : (r : Reading) → sheetOf s .reading ≡ r → Small r
+    go : (r : Reading) → sheetOf s .reading ≡ r → Numbered r
     go (Readable people steps rules) d = tt
-    go (Refused f k) d = let w = read-sheet-refusal s f k d in (w .to, w .card)
+    go (Refused f k) d = let w = read-sheet-refusal s f k d in (omega (arith, w .to), omega (arith, w .card))

@@ -1,9 +1,7 @@
 -- What the spare call leaves, and what its parts may rest on. Assumes nothing.
 use mathlib.Core.List.{List}
 use mathlib.Core.Path.{_≡_}
-use Prim.Native.Nat.{ℕ, _≤_, _<_}
-use Rattle.sheet.specs.declared.Reading.{Reading}
-use Rattle.sheet.specs.declared.Reading.the-variants.{Readable, Refused}
+use Prim.Native.Nat.{ℕ, _<_}
 use Rattle.crew.specs.Bytes.{Outcome}
 use Rattle.resiliency.specs.declared.Spared.{Spared}
 use Rattle.resiliency.specs.declared.Spared.the-variants.{Unsatisfiable, Capped, One, Two, Three}
@@ -12,11 +10,6 @@ use Rattle.resiliency.specs.declared.Spared.the-variants.{Unsatisfiable,
 pub record Left (o : Outcome) (n : ℕ) (bs : List ℕ) : Type 0 where
   pub number : n ≡ o .number
   pub bytes : bs ≡ o .bytes
-
--- a refusal and a card of the papers
-abbrev pub Small : Reading → Type 0
-Small (Readable people steps rules) = Unit {0}
-Small (Refused f c) = (f ≤ 12) × (c < 141)
 
 -- the members of a group are below n
 abbrev pub Named : ℕ → Spared → Type 0

@@ -1,6 +1,7 @@
 // The spare call: a sheet, a buffer and a cap become a number and 16 bytes.
 use super::Spared;
 use super::job::job_count;
+use crew::number;
 use crew::write::put_long;
 use sheet::Reading;
 use sheet::read_sheet;
@@ -9,10 +10,9 @@ ghost use mathlib.Core.Path.{_≡_};
 ghost use Prim.Native.Nat.{_≤_};
 ghost use lib.ListN.{length, drop};
 ghost use Rattle.crew.specs.Bytes.{written};
-ghost use Rattle.sheet.specs.Answer.{numberOf};
 ghost use Rattle.resiliency.specs.Known.{told};
 ghost use Rattle.resiliency.specs.Spare.{answered, spareAnswer};
-ghost use Rattle.resiliency.specs.Left.{Left, Small, Named};
+ghost use Rattle.resiliency.specs.Left.{Left, Named};
 
 // The greatest cap, the bytes of a spare count, and the refusals of the caller and of the job.
 const MOST_AWAY: u32 = 3;
@@ -64,23 +64,8 @@ fn write_count(tag: &[u32; 64], cap: u32, count: Spared, out: &mut [u8]) -> u32
     }
 }
 
-// The number of a reader's refusal.
-fn number(reading: Reading) -> u32
-    requires { ⌜ Small reading ⌝ }
-    ensures { λ r. ⌜ r ≡ numberOf reading ⌝ }
-{
-    match reading {
-        Reading::Readable { .. } => {
-            return 0;
-        }
-        Reading::Refused { refusal, card } => {
-            return refusal * 256 + card as u32;
-        }
-    }
-}
-
-// The spare call.
-pub fn spare(sheet: &[u8], answer: &mut [u8], cap: u32) -> u32
+// The spare call, with or without kept plans, and the number of its searches.
+pub fn walked(sheet: &[u8], answer: &mut [u8], cap: u32, keeping: bool, asked: &mut u32) -> u32
     ensures { λ r. ⌜ Left (spareAnswer cap (now (sheet .entry)) (now (answer .entry))) r (now (answer .exit)) ⌝ }
 {
     if cap > MOST_AWAY {
@@ -101,6 +86,14 @@ pub fn spare(sheet: &[u8], answer: &mut [u8], cap: u32) -> u32
     }
     let job = read.job;
     let tag = job.person_tag;
-    let count = job_count(job, people, steps, rules, cap as usize);
+    let count = job_count(job, people, steps, rules, cap as usize, keeping, asked);
     write_count(&tag, cap, count, answer)
+}
+
+// The spare call.
+pub fn spare(sheet: &[u8], answer: &mut [u8], cap: u32) -> u32
+    ensures { λ r. ⌜ Left (spareAnswer cap (now (sheet .entry)) (now (answer .entry))) r (now (answer .exit)) ⌝ }
+{
+    let mut asked: u32 = 0;
+    walked(sheet, answer, cap, true, &mut asked)
 }

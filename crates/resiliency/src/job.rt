@@ -14,7 +14,15 @@ ghost use Rattle.resiliency.specs.Count.{spare};
 ghost use Rattle.resiliency.specs.Known.{told};
 
 // The arrays of the search are made, without the levels that no rule names.
-pub fn job_count(job: Job, people: usize, steps: usize, rules: usize, cap: usize) -> Spared
+pub fn job_count(
+    job: Job,
+    people: usize,
+    steps: usize,
+    rules: usize,
+    cap: usize,
+    keeping: bool,
+    asked: &mut u32,
+) -> Spared
     requires { ⌜ ReadableJob people steps rules job × (cap ≤ 3) ⌝ }
     ensures { λ r. ⌜ told r ≡ spare (instanceOf people steps rules job) (mayOf job) cap ⌝ }
 {
@@ -51,5 +59,7 @@ pub fn job_count(job: Job, people: usize, steps: usize, rules: usize, cap: usize
         &scope,
         &may,
         cap,
+        keeping,
+        asked,
     )
 }

@@ -4,3 +4,5 @@ pub mod Turn
 pub mod Meeting
 pub mod Staff
 pub mod Ends
+pub mod Attempt
+pub mod Relaxing

@@ -34,3 +34,7 @@ pub record Existence (j : Job) (may : May) (plan plan′ : List ℕ) (r : Bool) 
   pub won : r ≡ true → Valid j may (planIn plan′)
   pub lost : r ≡ false → Satisfiable j may → ⊥
   pub kept : r ≡ false → plan′ ≡ plan
+
+-- where the answer is yes, there is no valid plan
+pub record Refuting (j : Job) (may : May) (r : Bool) : Type 0 where
+  pub none-valid : r ≡ true → Satisfiable j may → ⊥

@@ -1,5 +1,8 @@
 // Whether a job has a valid plan, and one where it has.
 use super::find::find;
+use super::thorough::thorough;
+use backtrack::Tried;
+use backtrack::attempt;
 use bits::set::lowest;
 use eligible::eligible;
 use levels::Size;
@@ -11,6 +14,9 @@ ghost use Rattle.pattern.specs.Tables.{mayIn, jobIn};
 ghost use Rattle.eligible.specs.Rules.{Says};
 ghost use Rattle.levels.specs.Given.{Given};
 ghost use Rattle.search.specs.Existence.{Named, Foremost, AllStaffed, Spread, Existence};
+
+// How many rules the search over people may look at: a few microseconds' worth.
+const EFFORT: u32 = 200;
 
 // The steps that rules name.
 fn named(steps: usize, rules: usize, scope: &[u16; 64]) -> u16
@@ -58,8 +64,8 @@ fn spread(steps: usize, may: &[u64; 12], plan: &mut [u8; 12])
     }
 }
 
-// Whether there is a valid plan; `plan` is then one, and else as it was.
-pub fn exists(
+// Whether there is a valid plan, by patterns; `plan` is then one, and else as it was.
+pub fn by_patterns(
     size: Size,
     class: &[u8; 192],
     kind: &[u8; 64],
@@ -101,4 +107,48 @@ pub fn exists(
     spread(size.steps, may, plan);
     realize(size.people, size.levels, class, may, &label, rest, plan);
     true
+}
+
+// Whether there is a valid plan; `plan` is then one, and else as it was. Most questions are answered by
+// the search over people.
+pub fn exists(
+    size: Size,
+    class: &[u8; 192],
+    kind: &[u8; 64],
+    level: &[u8; 64],
+    limit: &[u8; 64],
+    scope: &[u16; 64],
+    may: &[u64; 12],
+    weight: &mut [u32; 12],
+    plan: &mut [u8; 12],
+) -> bool
+    requires { ⌜ Given (size .steps) (size .people) (size .levels) (size .rules) (now class) (now kind) (now level) (now limit) (now scope)
+        × (length (now may) ≡ 12) × (length (now weight) ≡ 12) × (length (now plan) ≡ 12) ⌝ }
+    ensures { λ r. ⌜ Existence (jobIn (size .steps) (size .people) (size .levels) (now (class .entry)) (size .rules) (now (kind .entry)) (now (level .entry)) (now (limit .entry)) (now (scope .entry)))
+        (mayIn (now (may .entry))) (now (plan .entry)) (now (plan .exit)) r × (length (now (weight .exit)) ≡ 12) ⌝ }
+{
+    let mut first = [0u8; 12];
+    let tried = attempt(
+        size,
+        class,
+        kind,
+        level,
+        limit,
+        scope,
+        may,
+        EFFORT,
+        &mut first,
+    );
+    match tried {
+        Tried::Found => {
+            *plan = first;
+            return true;
+        }
+        Tried::Unsatisfiable => {
+            return false;
+        }
+        Tried::Tired => {
+            return thorough(size, class, kind, level, limit, scope, may, weight, plan);
+        }
+    }
 }

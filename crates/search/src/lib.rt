@@ -5,3 +5,4 @@ pub mod find;
 pub mod grow;
 pub mod meet;
 pub mod place;
+pub mod thorough;

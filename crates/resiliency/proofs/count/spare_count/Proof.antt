@@ -1,4 +1,5 @@
 -- A plan with everyone present, and then the sizes. Assumes nothing.
+use native.Mathlib.Omega.{arith}
 use mathlib.Core.Path.{sym, _∙_}
 use borrow.Author.Tests.{not-true, not-false}
 use Rattle.resiliency.proofs.Knowing.{found-people}
@@ -16,17 +17,14 @@ exists-requires c κs = search needs
 returns : tie.Need-returns
 returns c = spare-none (c .before .before .before .before .before .args .cap) (c .before .exists .ensures .0) (not-true (c .before .exists .result) (c .if1 .taken))
 
-people-of-requires : tie.Need-people-of-requires
-people-of-requires c κs = (c .before .before .before .before .before .before .pre .0 .few-steps, c .before .before .exists .ensures .0 .sized, found-people (c .before .before .exists .ensures .0) (not-false (c .before .before .exists .result) (c .before .if1 .left)) (c .before .before .before .before .before .before .pre .0 .few-people))
-
-note-requires : tie.Need-note-requires
-note-requires c κs = search needs
+keep-plan-requires : tie.Need-keep-plan-requires
+keep-plan-requires c κs = (c .before .before .before .before .before .before .before .before .pre .0 .few-steps, c .before .before .before .before .exists .ensures .0 .sized, found-people (c .before .before .before .before .exists .ensures .0) (not-false (c .before .before .before .before .exists .result) (c .before .before .before .if1 .left)) (c .before .before .before .before .before .before .before .before .pre .0 .few-people), search needs, search needs, search needs)
 
 sizes-requires : tie.Need-sizes-requires
-sizes-requires c κs = (c .before .before .before .before .before .before .before .before .before .before .before .pre .0, c .before .before .before .before .before .before .before .before .before .before .before .pre .1, c .before .before .before .before .before .before .before .exists .ensures .1, c .before .before .before .before .before .before .before .before .before .before .before .pre .2, known-first (c .before .before .before .before .before .before .before .exists .ensures .0) (not-false (c .before .before .before .before .before .before .before .exists .result) (c .before .before .before .before .before .before .if1 .left)) (c .before .before .before .before .people-of .ensures) (c .before .before .note .ensures))
+sizes-requires c κs = (c .before .before .before .before .before .before .before .before .before .before .before .before .before .pre .0, c .before .before .before .before .before .before .before .before .before .before .before .before .before .pre .1, c .before .before .before .before .before .before .before .before .before .exists .ensures .1, c .before .before .before .before .before .before .before .before .before .before .before .before .before .pre .2, known-first (c .before .before .before .before .before .before .before .before .before .before .before .before .before .args .keeping) (c .before .before .before .before .before .before .before .before .before .exists .ensures .0) (not-false (c .before .before .before .before .before .before .before .before .before .exists .result) (c .before .before .before .before .before .before .before .before .if1 .left)) (c .before .before .before .before .before .before .before .before .before .before .before .before .before .pre .0 .few-people) (omega arith) (c .before .before .before .before .keep-plan .ensures))
 
 returns-2 : tie.Need-returns-2
-returns-2 c = c .sizes .ensures ∙ sym (spare-walk (c .before .before .before .before .before .before .before .before .before .before .before .before .args .cap) (c .before .before .before .before .before .before .before .before .exists .ensures .0) (not-false (c .before .before .before .before .before .before .before .before .exists .result) (c .before .before .before .before .before .before .before .if1 .left)))
+returns-2 c = c .sizes .ensures ∙ sym (spare-walk (c .before .before .before .before .before .before .before .before .before .before .before .before .before .before .args .cap) (c .before .before .before .before .before .before .before .before .before .before .exists .ensures .0) (not-false (c .before .before .before .before .before .before .before .before .before .before .exists .result) (c .before .before .before .before .before .before .before .before .before .if1 .left)))
 
 pub spare-count-spec : {M : Type 1} → statement M
 spare-count-spec =
@@ -35,7 +33,6 @@ spare-count-spec =
     weights-requires
     exists-requires
     returns
-    people-of-requires
-    note-requires
+    keep-plan-requires
     sizes-requires
     returns-2)

@@ -5,6 +5,9 @@ use borrow.Author.Needs.{needs}
 use Rattle.resiliency.proofs.known.searched.Statement.{statement}
 use Rattle.resiliency.proofs.known.searched.Tie as tie
 
+next-slot-requires : tie.Need-next-slot-requires
+next-slot-requires c κs = search needs
+
 remaining-requires : tie.Need-remaining-requires
 remaining-requires c κs = search needs
 
@@ -12,24 +15,21 @@ exists-requires : tie.Need-exists-requires
 exists-requires c κs = search needs
 
 returns : tie.Need-returns
-returns c = searched-lost (c .before .before .before .before .before .before .pre .4) (c .before .before .before .before .before .remaining .ensures) (c .before .before .before .before .before .before .pre .0 .few-steps) (c .before .exists .ensures .0) (not-true (c .before .exists .result) (c .if1 .taken)) (c .before .exists .ensures .1)
+returns c = searched-lost (c .before .before .before .before .before .before .before .before .pre .3) (c .before .before .before .before .before .remaining .ensures) (c .before .before .before .before .before .before .before .before .pre .0 .few-steps) (c .before .exists .ensures .0) (not-true (c .before .exists .result) (c .if1 .taken)) (c .before .exists .ensures .1)
 
-people-of-requires : tie.Need-people-of-requires
-people-of-requires c κs = (c .before .before .before .before .before .before .before .pre .0 .few-steps, c .before .before .exists .ensures .0 .sized, found-people (c .before .before .exists .ensures .0) (not-false (c .before .before .exists .result) (c .before .if1 .left)) (c .before .before .before .before .before .before .before .pre .0 .few-people))
-
-note-requires : tie.Need-note-requires
-note-requires c κs = search needs
+keep-plan-requires : tie.Need-keep-plan-requires
+keep-plan-requires c κs = (c .before .before .before .before .before .before .before .before .before .before .before .pre .0 .few-steps, c .before .before .before .before .exists .ensures .0 .sized, found-people (c .before .before .before .before .exists .ensures .0) (not-false (c .before .before .before .before .exists .result) (c .before .before .before .if1 .left)) (c .before .before .before .before .before .before .before .before .before .before .before .pre .0 .few-people), search needs, search needs, search needs)
 
 returns-2 : tie.Need-returns-2
-returns-2 c = searched-won (c .before .before .before .before .before .before .before .before .before .before .pre .4) (c .before .before .before .before .before .before .before .before .before .remaining .ensures) (c .before .before .before .before .before .before .before .before .before .before .pre .0 .few-steps) (c .before .before .before .before .before .exists .ensures .0) (not-false (c .before .before .before .before .before .exists .result) (c .before .before .before .before .if1 .left)) (c .before .before .people-of .ensures) (c .note .ensures) (c .before .before .before .before .before .exists .ensures .1)
+returns-2 c = searched-won (c .before .before .before .before .before .before .before .before .before .before .before .before .args .keeping) (c .before .before .before .before .before .before .before .before .before .before .before .before .pre .3) (c .before .before .before .before .before .before .before .before .before .remaining .ensures) (c .before .before .before .before .before .before .before .before .before .before .before .before .pre .0 .few-steps) (c .before .before .before .before .before .exists .ensures .0) (not-false (c .before .before .before .before .before .exists .result) (c .before .before .before .before .if1 .left)) (c .before .before .before .before .before .before .before .before .before .before .next-slot .ensures) (c .keep-plan .ensures) (c .before .before .before .before .before .exists .ensures .1)
 
 pub searched-spec : {M : Type 1} → statement M
 searched-spec =
     tie.close
     (tie.spec
+    next-slot-requires
     remaining-requires
     exists-requires
     returns
-    people-of-requires
-    note-requires
+    keep-plan-requires
     returns-2)

@@ -1,79 +1,44 @@
 -- `search::exists::exists` meets its contract. Assumes nothing.
-use mathlib.Core.Path.{refl}
-use Rattle.search.proofs.Node.{ruled}
-use Rattle.search.proofs.Ends.{blank, finished-sized, existence-unstaffed, existence-ruled-out, start-patterned, reached-start, existence-lost, existence-won}
+use mathlib.Core.Path.{subst}
+use Rattle.backtrack.specs.Trial.{Trial}
+use Rattle.search.proofs.Attempt.{existence-found, existence-none}
 use borrow.Author.Needs.{needs}
 use Rattle.search.proofs.exists.exists.Statement.{statement}
 use Rattle.search.proofs.exists.exists.Tie as tie
 
-staffed-requires : tie.Need-staffed-requires
-staffed-requires c κs = search needs
+attempt-requires : tie.Need-attempt-requires
+attempt-requires c κs = search needs
+
+enum-told : tie.Need-enum-told
+enum-told c = search needs
 
 returns : tie.Need-returns
-returns c =
-    let a = c .before .before .args in
-    let p = c .before .before .pre in
-    (existence-unstaffed (p .0) (a .may .now) (a .plan .now) (p .3) (c .before .staffed .result) (c .before .staffed .ensures) (c .if1 .taken), p .2)
+returns c = (existence-found _ _ _ _ (c .before .before .attempt .ensures .1) (subst (Trial _ _ _) (c .enum-told .given .1) (c .before .before .attempt .ensures .0)), c .before .before .before .before .pre .2)
 
-eligible-requires : tie.Need-eligible-requires
-eligible-requires c κs =
-    let p = c .before .before .before .pre in
-    ruled (p .0) (c .before .before .before .args .may .now) 0 blank (start-patterned (p .0) (c .before .before .before .args .may .now) blank refl)
+enum-told-2 : tie.Need-enum-told-2
+enum-told-2 c = search needs
 
 returns-2 : tie.Need-returns-2
-returns-2 c =
-    let a = c .before .before .before .before .before .args in
-    let p = c .before .before .before .before .before .pre in
-    (existence-ruled-out (p .0) (a .may .now) (a .plan .now) blank (p .3) (c .before .eligible .result) (c .before .eligible .ensures) (c .if2 .taken), p .2)
+returns-2 c = (existence-none _ _ _ _ (c .before .before .before .before .pre .3) (subst (Trial _ _ _) (c .enum-told2 .given .1) (c .before .before .attempt .ensures .0)), c .before .before .before .before .pre .2)
 
-named-requires : tie.Need-named-requires
-named-requires c κs = search needs
+enum-told-3 : tie.Need-enum-told-3
+enum-told-3 c = search needs
 
-find-requires : tie.Need-find-requires
-find-requires c κs =
-    let a = c .before .before .before .before .before .before .before .before .args in
-    let p = c .before .before .before .before .before .before .before .before .pre in (
-      p .0,
-      p .1,
-      p .2,
-      reached-start (p .0) (a .may .now) (c .before .before .named .result) blank refl
-          (c .before .before .before .before .eligible .result) (c .before .before .before .before .eligible .ensures) (c .before .before .before .if2 .left) (c .before .before .named .ensures),
-    )
+thorough-requires : tie.Need-thorough-requires
+thorough-requires c κs = search needs
 
 returns-3 : tie.Need-returns-3
-returns-3 c =
-    let a = c .before .before .before .before .before .before .before .before .before .before .args in
-    let p = c .before .before .before .before .before .before .before .before .before .before .pre in
-    (existence-lost (p .0) (a .may .now) (a .plan .now) blank (c .before .find .result) (p .3) (c .before .find .ensures .0) (c .if3 .taken), c .before .find .ensures .1)
-
-spread-requires : tie.Need-spread-requires
-spread-requires c κs = search needs
-
-realize-requires : tie.Need-realize-requires
-realize-requires c κs =
-    let a = c .before .before .before .before .before .before .before .before .before .before .before .before .before .before .args in
-    let p = c .before .before .before .before .before .before .before .before .before .before .before .before .before .before .pre in
-    (finished-sized (p .0) (a .may .now) (c .before .before .before .before .before .find .result) (p .1) (c .before .before .before .before .before .find .ensures .0) (c .before .before .before .before .if3 .left), p .0 .few-people, c .before .before .spread .ensures .sized)
-
-returns-4 : tie.Need-returns-4
-returns-4 c =
-    let a = c .before .before .before .before .before .before .before .before .before .before .before .before .before .before .before .args in
-    let p = c .before .before .before .before .before .before .before .before .before .before .before .before .before .before .before .pre in
-    let o = c .before .before .before .before .before .before .find in
-    let t = c .before .before .before .before .before .before .before .before .before .before .before .before .before .before .staffed in
-    (existence-won (p .0) (a .may .now) (a .plan .now) (t .result) (o .result) (t .ensures) (c .before .before .before .before .before .before .before .before .before .before .before .before .before .if1 .left) (o .ensures .0) (c .before .before .before .before .before .if3 .left) (c .before .before .before .spread .ensures) (c .realize .ensures), o .ensures .1)
+returns-3 c = search needs
 
 pub exists-spec : {M : Type 1} → statement M
 exists-spec =
     tie.close
     (tie.spec
-    staffed-requires
+    attempt-requires
+    enum-told
     returns
-    eligible-requires
+    enum-told-2
     returns-2
-    named-requires
-    find-requires
-    returns-3
-    spread-requires
-    realize-requires
-    returns-4)
+    enum-told-3
+    thorough-requires
+    returns-3)

@@ -1,0 +1,86 @@
+"""Tables and plots from recorded files.
+
+usage: python3 bench/plot [--measured CSV] [--peers CSV] [--plots DIR] [--into FILE]
+  --measured  from 'bench measure', bench/recorded/measured.csv unless given
+  --peers     from 'bench peers', bench/recorded/peers.csv unless given
+  --plots     where the plots go, docs/plots unless given
+  --into      a text that has a line '<!-- NAME -->' before and '<!-- end NAME -->' after the place of a table; without it
+              the tables are printed. The names are practice, others, peers, slower
+A file that is missing is left out.
+"""
+
+import argparse
+import re
+import sys
+from pathlib import Path
+
+sys.dont_write_bytecode = True
+
+import plots
+import tables
+from records import TIME_OF, Record
+
+ROOT = Path(__file__).resolve().parents[2]
+
+
+def arguments():
+    parser = argparse.ArgumentParser(description="Tables and plots from recorded files.")
+    parser.add_argument("--measured", type=Path, default=ROOT / "bench/recorded/measured.csv")
+    parser.add_argument("--peers", type=Path, default=ROOT / "bench/recorded/peers.csv")
+    parser.add_argument("--plots", type=Path, default=ROOT / "docs/plots")
+    parser.add_argument("--into", type=Path)
+    return parser.parse_args()
+
+
+def record(path):
+    if path.exists():
+        return Record(path)
+    print(f"{path} is missing: left out", file=sys.stderr)
+    return None
+
+
+def made(measured, peers):
+    """Tables by name and plots by file."""
+    named, drawn = {}, {}
+    if measured:
+        named["practice"] = f"{measured.origin()}\n\n{tables.practice(measured)}"
+        named["others"] = f"{measured.origin()}\n\n{tables.others(measured)}"
+        title = "practice sheets of 12 steps and 64 people"
+        drawn["crew.svg"] = plots.over_rules(measured, f"Crew, {title}", "crew_ns", "first_ns")
+        drawn["spare.svg"] = plots.over_rules(measured, f"Spare count, cap 3, {title}", "spare_ns", "hand_spare_ns")
+        drawn["against-hand.svg"] = plots.against_hand(measured)
+    if peers:
+        named["peers"] = f"{peers.origin()}\n\n{tables.peers(peers)}"
+        named["slower"] = tables.slower_than(peers)
+        for solver in TIME_OF:
+            drawn[f"against-{solver}.svg"] = plots.against_peer(peers, solver)
+    return named, drawn
+
+
+def put(text, name, table):
+    """The text with the table in its place."""
+    begin, end = f"<!-- {name} -->", f"<!-- end {name} -->"
+    place = re.compile(re.escape(begin) + ".*?" + re.escape(end), re.DOTALL)
+    if not place.search(text):
+        print(f"there is no place for the table '{name}'", file=sys.stderr)
+    return place.sub(lambda _: f"{begin}\n{table}{end}", text)
+
+
+def main():
+    given = arguments()
+    named, drawn = made(record(given.measured), record(given.peers))
+    given.plots.mkdir(parents=True, exist_ok=True)
+    for file, svg in drawn.items():
+        if svg:
+            (given.plots / file).write_text(svg)
+    if not given.into:
+        for name, table in named.items():
+            print(f"## {name}\n\n{table}")
+        return
+    text = given.into.read_text()
+    for name, table in named.items():
+        text = put(text, name, table)
+    given.into.write_text(text)
+
+
+main()

@@ -1,0 +1,66 @@
+"""Recorded files: the lines at their head, and their rows."""
+
+import csv
+import math
+from pathlib import Path
+
+# The groups by what they are, for colours and tables.
+FAMILIES = [
+    ("practice", ["practice"]),
+    ("random", ["four-kinds", "loose", "tight", "any-people"]),
+    ("accident", ["contradiction", "fifth-shop", "eleven-benches", "last-part"]),
+    ("hard", ["hard"]),
+]
+
+# What is set against the library's time, reading included: SAT4J is warm, and its wall time is reading and solving; the
+# others print their CPU time.
+TIME_OF = {"minisat": "own_ns", "clingo": "own_ns", "sat4j": "wall_ns"}
+
+
+class Record:
+    def __init__(self, path):
+        lines = Path(path).read_text().splitlines()
+        heads = [line[2:] for line in lines if line.startswith("# ")]
+        self.facts = dict(line.split(": ", 1) for line in heads if ": " in line)
+        self.rows = list(csv.DictReader(line for line in lines if not line.startswith("#")))
+
+    def groups(self):
+        """The names of the groups, in the order of the file."""
+        return list(dict.fromkeys(row["group"] for row in self.rows))
+
+    def of(self, **wanted):
+        return [row for row in self.rows if all(row[name] == value for name, value in wanted.items())]
+
+    def origin(self):
+        """Where, when and how, in a line."""
+        known = [self.facts[name] for name in ("machine", "date") if name in self.facts]
+        command = f"`{self.facts['command']}`" if "command" in self.facts else ""
+        return "; ".join(known + [command] if command else known)
+
+
+def family(group):
+    for name, starts in FAMILIES:
+        if any(group == start or group.startswith(start + "-") for start in starts):
+            return name
+    return "other"
+
+
+def micros(row, column):
+    """A time in microseconds. One that is missing was late: slower than all others, so that no figure looks better."""
+    return float(row[column]) / 1000 if row[column] else math.inf
+
+
+def at(times, share):
+    """The time that this share of the times does not exceed."""
+    ordered = sorted(times)
+    return ordered[max(math.ceil(len(ordered) * share), 1) - 1]
+
+
+def median(times):
+    return at(times, 0.5)
+
+
+def practice_rules(group):
+    """The number of rules of a group of practice sheets of full size."""
+    start, _, rules = group.rpartition("-")
+    return int(rules) if start == "practice" and rules.isdigit() else None

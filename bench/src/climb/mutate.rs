@@ -1,0 +1,224 @@
+//! Small changes of a job. Each leaves a job that the reader takes.
+
+use sheet_tests::jobs::random_rule;
+use sheet_tests::model::{Job, Rule, MOST_PEOPLE, MOST_RULES};
+use sheet_tests::random::Random;
+
+const SAME: u8 = 1;
+const DIFFERENT: u8 = 2;
+const AT_MOST: u8 = 3;
+
+/// What a change does; one that cannot be made leaves the job as it is.
+type Change = fn(&mut Random, &mut Job);
+
+/// Rules stand more than once, since most of what is hard lies in them.
+const CHANGES: [Change; 16] = [
+    add_rule,
+    add_rule,
+    drop_rule,
+    copy_rule,
+    change_kind,
+    change_level,
+    change_scope,
+    change_scope,
+    change_limit,
+    change_limit,
+    turn_permission,
+    copy_permissions,
+    turn_step,
+    move_person,
+    move_bench,
+    swap_people,
+];
+
+/// A limit within the bounds of the rule's kind and scope.
+fn fit_limit(rule: &mut Rule) {
+    let size = rule.scope.count_ones() as u8;
+    rule.limit = if rule.kind <= DIFFERENT { 0 } else { rule.limit.clamp(1, size) };
+}
+
+/// Some rule, to be changed.
+fn any_rule<'a>(random: &mut Random, job: &'a mut Job) -> Option<&'a mut Rule> {
+    if job.rules.is_empty() {
+        return None;
+    }
+    let at = random.below(job.rules.len());
+    Some(&mut job.rules[at])
+}
+
+fn add_rule(random: &mut Random, job: &mut Job) {
+    if job.rules.len() < MOST_RULES && job.steps.len() > 1 {
+        job.rules.push(random_rule(random, job.steps.len()));
+    }
+}
+
+fn drop_rule(random: &mut Random, job: &mut Job) {
+    if !job.rules.is_empty() {
+        job.rules.remove(random.below(job.rules.len()));
+    }
+}
+
+/// A rule again, some steps further along the chain.
+fn copy_rule(random: &mut Random, job: &mut Job) {
+    let steps = job.steps.len();
+    if job.rules.is_empty() || job.rules.len() == MOST_RULES {
+        return;
+    }
+    let mut rule = job.rules[random.below(job.rules.len())].clone();
+    let by = random.below(steps);
+    let all = (1u32 << steps) - 1;
+    let wide = u32::from(rule.scope);
+    rule.scope = ((wide << by | wide >> (steps - by)) & all) as u16;
+    job.rules.push(rule);
+}
+
+/// Between same and different, or between at most and at least. A pair may become a count.
+fn change_kind(random: &mut Random, job: &mut Job) {
+    let Some(rule) = any_rule(random, job) else {
+        return;
+    };
+    rule.kind = match rule.kind {
+        SAME | DIFFERENT if random.once_in(3) => random.within(3, 4) as u8,
+        SAME | DIFFERENT => SAME + DIFFERENT - rule.kind,
+        kind => 2 * AT_MOST + 1 - kind,
+    };
+    fit_limit(rule);
+}
+
+fn change_level(random: &mut Random, job: &mut Job) {
+    if let Some(rule) = any_rule(random, job) {
+        rule.level = random.within(1, 3) as u8;
+    }
+}
+
+/// A count gains or loses a step; of a pair one step is put in place of another.
+fn change_scope(random: &mut Random, job: &mut Job) {
+    let steps = job.steps.len();
+    let bit = 1u16 << random.below(steps);
+    let Some(rule) = any_rule(random, job) else {
+        return;
+    };
+    if rule.kind <= DIFFERENT {
+        let kept =
+            if random.once_in(2) { rule.scope & rule.scope.wrapping_neg() } else { rule.scope & (rule.scope - 1) };
+        if kept != bit {
+            rule.scope = kept | bit;
+        }
+        return;
+    }
+    if (rule.scope ^ bit).count_ones() >= 2 {
+        rule.scope ^= bit;
+    }
+    fit_limit(rule);
+}
+
+fn change_limit(random: &mut Random, job: &mut Job) {
+    let up = random.once_in(2);
+    let Some(rule) = any_rule(random, job) else {
+        return;
+    };
+    rule.limit = if up { rule.limit + 1 } else { rule.limit.saturating_sub(1) };
+    fit_limit(rule);
+}
+
+fn turn_permission(random: &mut Random, job: &mut Job) {
+    let person = random.below(job.people.len());
+    job.people[person].permitted ^= 1 << random.below(job.steps.len());
+}
+
+fn copy_permissions(random: &mut Random, job: &mut Job) {
+    let (from, to) = (random.below(job.people.len()), random.below(job.people.len()));
+    job.people[to].permitted = job.people[from].permitted;
+}
+
+/// One step more, or one less, for everybody of a bench.
+fn turn_step(random: &mut Random, job: &mut Job) {
+    let bench = job.people[random.below(job.people.len())].bench;
+    let bit = 1 << random.below(job.steps.len());
+    let give = random.once_in(2);
+    for person in job.people.iter_mut().filter(|person| person.bench == bench) {
+        person.permitted = if give { person.permitted | bit } else { person.permitted & !bit };
+    }
+}
+
+/// A bench number that nobody has.
+fn new_bench(job: &Job) -> u16 {
+    let is_free = |bench: &u16| job.people.iter().all(|person| person.bench != *bench);
+    (1..=MOST_PEOPLE as u16 + 1).find(is_free).expect("more numbers than people")
+}
+
+/// A shop that is there, or now and then a new one.
+fn any_shop(random: &mut Random, job: &Job) -> u16 {
+    if random.once_in(4) {
+        let is_free = |shop: &u16| job.people.iter().all(|person| person.shop != *shop);
+        return (1..=MOST_PEOPLE as u16 + 1).find(is_free).expect("more numbers than people");
+    }
+    job.people[random.below(job.people.len())].shop
+}
+
+/// Somebody to the bench of another, and so to its shop, or to a bench of their own.
+fn move_person(random: &mut Random, job: &mut Job) {
+    let to = job.people[random.below(job.people.len())].clone();
+    let (shop, bench) = if random.once_in(3) { (any_shop(random, job), new_bench(job)) } else { (to.shop, to.bench) };
+    let person = random.below(job.people.len());
+    job.people[person].shop = shop;
+    job.people[person].bench = bench;
+}
+
+/// A whole bench to another shop.
+fn move_bench(random: &mut Random, job: &mut Job) {
+    let bench = job.people[random.below(job.people.len())].bench;
+    let shop = any_shop(random, job);
+    for person in job.people.iter_mut().filter(|person| person.bench == bench) {
+        person.shop = shop;
+    }
+}
+
+/// Two people change places in crew order: the first plan depends on it.
+fn swap_people(random: &mut Random, job: &mut Job) {
+    let (a, b) = (random.below(job.people.len()), random.below(job.people.len()));
+    job.people.swap(a, b);
+}
+
+/// The job with one to three changes.
+pub fn mutated(random: &mut Random, job: &Job) -> Job {
+    let mut changed = job.clone();
+    for _ in 0..random.within(1, 3) {
+        CHANGES[random.below(CHANGES.len())](random, &mut changed);
+    }
+    changed
+}
+
+#[cfg(test)]
+mod tests {
+    use super::*;
+    use sheet_tests::builder::lay;
+    use sheet_tests::jobs::{good_job, job_of, small_job};
+    use sheet_tests::model::read;
+
+    #[test]
+    fn changes_keep_a_sheet_readable() {
+        for seed in 0..100 {
+            let mut random = Random::new(seed);
+            let mut job = if random.once_in(2) { small_job(&mut random) } else { good_job(&mut random) };
+            for _ in 0..200 {
+                job = mutated(&mut random, &job);
+                assert_eq!(read(&lay(&job).bytes).as_ref(), Ok(&job));
+            }
+        }
+    }
+
+    #[test]
+    fn each_change_changes_something_some_time() {
+        let mut random = Random::new(8);
+        let job = job_of(&mut random, 20, 8, 12);
+        for change in CHANGES {
+            let changes = |_| {
+                let mut changed = job.clone();
+                change(&mut random, &mut changed);
+                changed != job
+            };
+            assert!((0..50).any(changes));
+        }
+    }
+}

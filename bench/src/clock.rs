@@ -1,0 +1,66 @@
+//! The time of a call. What else runs on the machine is left out, as far as that can be done.
+
+use std::time::{Duration, Instant};
+
+/// Quick calls are made so many times, and the best time counts.
+const REPEATS: usize = 5;
+const QUICK: Duration = Duration::from_millis(20);
+
+/// A time in nanoseconds; nothing where the search was out of time.
+pub type Nanos = Option<u64>;
+
+/// As in C on 64-bit Linux.
+#[repr(C)]
+struct Reading {
+    seconds: i64,
+    nanos: i64,
+}
+
+extern "C" {
+    fn clock_gettime(clock: i32, reading: *mut Reading) -> i32;
+}
+
+/// CLOCK_THREAD_CPUTIME_ID: stands still while the thread waits for a core.
+const WORK_OF_THE_THREAD: i32 = 3;
+
+fn worked() -> Duration {
+    let mut reading = Reading { seconds: 0, nanos: 0 };
+    // The reading is a real one and as large as C's.
+    let failed = unsafe { clock_gettime(WORK_OF_THE_THREAD, &mut reading) } != 0;
+    assert!(!failed, "there is no clock for the work of a thread");
+    Duration::new(reading.seconds as u64, reading.nanos as u32)
+}
+
+/// By the wall or by the work of the thread, whichever is less: asking for the latter takes longer than a quick call.
+fn once<T>(run: &mut impl FnMut() -> T) -> (T, Duration) {
+    let before = worked();
+    let start = Instant::now();
+    let result = run();
+    let wall = start.elapsed();
+    (result, wall.min(worked() - before))
+}
+
+pub fn timed<T>(mut run: impl FnMut() -> T) -> (T, Duration) {
+    let (mut result, mut best) = once(&mut run);
+    for _ in 1..REPEATS {
+        if best > QUICK {
+            break;
+        }
+        let (again, time) = once(&mut run);
+        result = again;
+        best = best.min(time);
+    }
+    (result, best)
+}
+
+#[cfg(test)]
+mod tests {
+    use super::*;
+    use std::thread::sleep;
+
+    #[test]
+    fn waiting_is_no_work() {
+        let (_, time) = timed(|| sleep(Duration::from_millis(5)));
+        assert!(time < Duration::from_millis(4), "{time:?}");
+    }
+}

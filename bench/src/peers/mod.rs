@@ -1,0 +1,180 @@
+//! Solvers that know nothing of crews, on the same sheets: MiniSat, clingo and SAT4J, as far as they are installed.
+
+mod asp;
+mod clingo;
+mod cnf;
+mod installed;
+mod minisat;
+mod needs;
+mod opb;
+mod process;
+mod sat4j;
+mod solver;
+mod table;
+
+use crate::groups;
+use crate::measure::{called, people_of, Answer};
+use crate::options::{has_option, option};
+use crate::record;
+use crate::worker::Worker;
+use installed::{Installed, Scratch};
+use sheet_tests::answers::Call;
+use sheet_tests::builder::plain_job;
+use sheet_tests::model::Job;
+use sheet_tests::plans::is_valid;
+use solver::{Question, Solved, Solver};
+use std::io::{self, Write};
+use std::time::Duration;
+use table::Line;
+
+pub const USAGE: &str = "bench peers CSV [--sheets N] [--limit-ms N] [--late-ms N] [GROUP...]
+  CSV         the file for a line a sheet, solver and question
+  --sheets    sheets in each group, 20 unless given
+  --limit-ms  time for one answer of a solver, 1000 unless given; what is late for existence is not asked for a first plan
+  --late-ms   time for one call of the library, 2000 unless given
+  GROUP       only these; 'practice' stands for all that begin with 'practice-'
+MiniSat and clingo are processes of their own: 'wall' has their start and their reading, 'own' is the CPU time that they
+print. SAT4J is kept warm in one Java machine: 'wall' is reading and solving, 'own' solving alone. The group 'start' is one
+person and one step: what a solver costs before it works. MiniSat needs several calls for a first plan, which are added up.";
+
+/// SAT4J solves so many sheets before anything is measured.
+const WARM_UP: u32 = 40;
+
+pub struct Order {
+    csv: String,
+    sheets: u32,
+    limit: Duration,
+    library: Duration,
+    groups: Vec<String>,
+}
+
+pub fn order(mut args: Vec<String>) -> Option<Order> {
+    let sheets = option(&mut args, "--sheets", 20)?;
+    let limit = Duration::from_millis(option(&mut args, "--limit-ms", 1_000)?);
+    let library = Duration::from_millis(option(&mut args, "--late-ms", 2_000)?);
+    if args.is_empty() || sheets == 0 || has_option(&args) {
+        return None;
+    }
+    let csv = args.remove(0);
+    Some(Order { csv, sheets, limit, library, groups: args })
+}
+
+/// What the library says of the job: the first plan, or that there is none. It may be late itself.
+type Ours = Option<Option<Vec<usize>>>;
+
+fn ours(job: &Job, answer: &Answer) -> Ours {
+    let (number, crew) = answer.as_ref()?;
+    Some((*number == 0).then(|| people_of(job, crew)).flatten())
+}
+
+/// A late answer agrees with any. A plan is looked at also where only existence was asked for.
+fn agrees(job: &Job, ours: &Ours, solved: &Option<Solved>, question: Question) -> bool {
+    let Some(solved) = solved else {
+        return true;
+    };
+    if solved.plan.as_ref().is_some_and(|plan| !is_valid(job, plan)) {
+        return false;
+    }
+    let Some(ours) = ours else {
+        return true;
+    };
+    solved.has_plan == ours.is_some() && (question == Question::Exists || solved.plan == *ours)
+}
+
+/// The sheets to be asked about: first the smallest, then the groups'.
+fn sheets(order: &Order) -> Vec<(String, u32, Job)> {
+    let mut sheets: Vec<_> = (1..=5).map(|sheet| ("start".to_string(), sheet, plain_job(1, 1, 0))).collect();
+    for group in groups::meant(&order.groups) {
+        let numbers = 1..=order.sheets.min(group.sheets);
+        sheets.extend(numbers.map(|sheet| (group.name.clone(), sheet, (group.job)(sheet))));
+    }
+    sheets
+}
+
+fn warm_up(solvers: &mut [Box<dyn Solver>], limit: Duration) -> io::Result<()> {
+    let group = groups::meant(&["four-kinds-few".to_string()]).remove(0);
+    for solver in solvers.iter_mut().filter(|solver| solver.name() == "sat4j") {
+        for sheet in 1..=WARM_UP {
+            solver.solve(&(group.job)(sheet), Question::Exists, limit)?;
+        }
+    }
+    Ok(())
+}
+
+/// The solver's answers to its questions; what is late for the first is so for the others.
+fn answers(solver: &mut dyn Solver, job: &Job, limit: Duration) -> io::Result<Vec<(Question, Option<Solved>)>> {
+    let mut answers = vec![];
+    let mut late = false;
+    for &question in solver.questions() {
+        let solved = if late { None } else { solver.solve(job, question, limit)? };
+        late = solved.is_none();
+        answers.push((question, solved));
+    }
+    Ok(answers)
+}
+
+/// How many answers differ.
+pub fn run(order: &Order) -> io::Result<usize> {
+    let scratch = Scratch::new()?;
+    let Installed { mut solvers, missing } = Installed::look(&scratch.folder)?;
+    let notes: Vec<String> = missing.iter().map(|name| format!("not installed: {name}")).collect();
+    for note in &notes {
+        println!("{note}");
+    }
+    let mut csv = record::create(&order.csv, &notes)?;
+    writeln!(csv, "{}", table::CSV_HEADING)?;
+    warm_up(&mut solvers, order.limit)?;
+    let mut worker = Worker::new();
+    let mut lines: Vec<Line> = vec![];
+    for (group, sheet, job) in sheets(order) {
+        let (answer, nanos) = called(&mut worker, Call::Crew, &job, order.library)?;
+        let ours = ours(&job, &answer);
+        for solver in &mut solvers {
+            for (question, solved) in answers(solver.as_mut(), &job, order.limit)? {
+                let line = Line {
+                    group: group.clone(),
+                    sheet,
+                    size: [job.steps.len(), job.people.len(), job.rules.len()],
+                    has_plan: ours.as_ref().map(Option::is_some),
+                    crew: nanos,
+                    solver: solver.name(),
+                    question,
+                    agrees: agrees(&job, &ours, &solved, question),
+                    solved,
+                };
+                writeln!(csv, "{}", table::csv_line(&line))?;
+                lines.push(line);
+            }
+        }
+    }
+    csv.flush()?;
+    println!("{}", table::text(&lines));
+    Ok(lines.iter().filter(|line| !line.agrees).count())
+}
+
+#[cfg(test)]
+mod tests {
+    use super::*;
+    use sheet_tests::jobs::small_job;
+    use sheet_tests::plans::first_plan;
+    use sheet_tests::random::Random;
+
+    /// Of a solver that is not installed nothing is known.
+    #[test]
+    fn small_jobs_are_solved_as_by_the_brute_force() {
+        let scratch = Scratch::new().unwrap();
+        let solvers = Installed::look(&scratch.folder).unwrap().solvers;
+        let limit = Duration::from_secs(30);
+        for mut solver in solvers {
+            let mut random = Random::new(31);
+            for _ in 0..60 {
+                let job = small_job(&mut random);
+                let first = first_plan(&job, &[]);
+                for &question in solver.questions() {
+                    let solved = solver.solve(&job, question, limit).unwrap().expect("a small job");
+                    assert!(agrees(&job, &Some(first.clone()), &Some(solved), question), "{} {job:?}", solver.name());
+                }
+            }
+        }
+    }
+}

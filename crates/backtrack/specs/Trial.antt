@@ -1,0 +1,49 @@
+-- What a search over people comes to. Assumes nothing.
+use mathlib.Core.Bool.{Bool, true, false}
+use mathlib.Core.List.{List}
+use mathlib.Core.Path.{_≡_}
+use Prim.Native.Nat.{ℕ, _*_, _%_, _^_, _<_}
+use lib.ListN.{length, set}
+use Rattle.workflow.specs.Problem.{Job, Plan, Met, Valid, Satisfiable}
+use Rattle.workflow.specs.First.{FirstValid}
+use Rattle.pattern.specs.Tables.{mayIn, planIn}
+use Rattle.narrow.specs.Domains.{Takes}
+use Rattle.backtrack.specs.declared.Tried.{Tried}
+use Rattle.backtrack.specs.declared.Tried.the-variants.{Found, Unsatisfiable, Tired}
+
+-- what is known of the first n rules: every plan of the domains meets them, or none meets them all, or nothing
+unfoldable pub Judged : Job → ℕ → List ℕ → Tried → Type 0
+Judged j n dom Found = (i : ℕ) → i < n → (π : Plan) → Takes (j .steps) (j .people) dom π → Met j (j .rule i) π
+Judged j n dom Unsatisfiable = Satisfiable j (mayIn dom) → ⊥
+Judged j n dom Tired = Unit {0}
+
+-- what is known of rule i
+unfoldable pub JudgedRule : Job → ℕ → List ℕ → Tried → Type 0
+JudgedRule j i dom Found = (π : Plan) → Takes (j .steps) (j .people) dom π → Met j (j .rule i) π
+JudgedRule j i dom Unsatisfiable = (π : Plan) → Takes (j .steps) (j .people) dom π → Met j (j .rule i) π → ⊥
+JudgedRule j i dom Tired = Unit {0}
+
+-- step s is left to person p alone
+abbrev pub pinned : List ℕ → ℕ → ℕ → List ℕ
+pinned dom s p = set dom s (1 * 2 ^ p % 18446744073709551616)
+
+-- each step before s has one person at most
+pub record Alone (s : ℕ) (dom : List ℕ) : Type 0 where
+  pub one : (t p p′ : ℕ) → t < s → mayIn dom t p ≡ true → mayIn dom t p′ ≡ true → p ≡ p′
+
+-- the plan takes the first of each domain of the steps before n
+pub record Taken (people n : ℕ) (dom plan : List ℕ) : Type 0 where
+  pub sized : length plan ≡ 12
+  pub within : (s : ℕ) → s < n → planIn plan s < people
+  pub among : (s : ℕ) → s < n → mayIn dom s (planIn plan s) ≡ true
+
+-- what a search within domains comes to
+unfoldable pub Trial : Job → List ℕ → List ℕ → Tried → Type 0
+Trial j dom plan Found = FirstValid j (mayIn dom) (planIn plan)
+Trial j dom plan Unsatisfiable = Satisfiable j (mayIn dom) → ⊥
+Trial j dom plan Tired = Unit {0}
+
+-- the same, if so it is said
+abbrev pub TakenIf : Bool → ℕ → ℕ → List ℕ → List ℕ → Type 0
+TakenIf true people n dom plan = Taken people n dom plan
+TakenIf false people n dom plan = Unit {0}

@@ -1,0 +1,221 @@
+// A search for the first plan over people, step after step, with domains narrowed by the rules. It gives
+// up when its effort is spent: most sheets it answers at once, and for the others there is the pattern
+// search.
+mod ends;
+
+use bits::set::lowest;
+use bits::set::without;
+use ends::finish;
+use levels::Size;
+use narrow::mates::mates;
+use narrow::mates::naming;
+use narrow::propagate::propagate;
+ghost use mathlib.Core.Path.{_≡_};
+ghost use Prim.Native.Nat.{_<_};
+ghost use lib.ListN.{length};
+ghost use Rattle.pattern.specs.Tables.{jobIn};
+ghost use Rattle.levels.specs.Given.{Given};
+ghost use Rattle.narrow.specs.Domains.{Massed};
+ghost use Rattle.backtrack.specs.Trial.{pinned, Alone, Trial};
+
+// What came of a search: a plan, the first; that there is none; or nothing, the effort being spent.
+pub enum Tried {
+    Found,
+    Unsatisfiable,
+    Tired,
+}
+
+// All rules.
+const ALL: u64 = 0xffff_ffff_ffff_ffff;
+
+// The first plan of the domains with person `p` at step `s`.
+fn branch(
+    size: Size,
+    mates: &[u64; 192],
+    kind: &[u8; 64],
+    level: &[u8; 64],
+    limit: &[u8; 64],
+    scope: &[u16; 64],
+    of: &[u64; 12],
+    s: usize,
+    p: usize,
+    dom: &[u64; 12],
+    effort: &mut u32,
+    plan: &mut [u8; 12],
+) -> Tried
+    requires { ⌜ Massed (size .steps) (size .people) (size .levels) (size .rules) (now mates) (now kind) (now level) (now limit) (now scope)
+        × (length (now of) ≡ 12) × (length (now dom) ≡ 12) × (length (now plan) ≡ 12) × Alone s (now dom) × (s < size .steps) × (p < 64) ⌝ }
+    ensures { λ r. ⌜ Trial (jobIn (size .steps) (size .people) (size .levels) (now (mates .entry)) (size .rules) (now (kind .entry)) (now (level .entry)) (now (limit .entry)) (now (scope .entry)))
+        (pinned (now (dom .entry)) s p) (now (plan .exit)) r × (length (now (plan .exit)) ≡ 12) ⌝ }
+{
+    let mut next = *dom;
+    next[s] = 1 << p;
+    if !propagate(
+        size,
+        mates,
+        kind,
+        level,
+        limit,
+        scope,
+        of,
+        of[s],
+        &mut next,
+        effort,
+    ) {
+        return Tried::Unsatisfiable;
+    }
+    extend(
+        size,
+        mates,
+        kind,
+        level,
+        limit,
+        scope,
+        of,
+        s + 1,
+        &next,
+        effort,
+        plan,
+    )
+}
+
+// The first plan of the domains, where the steps before `s` have one person each.
+fn extend(
+    size: Size,
+    mates: &[u64; 192],
+    kind: &[u8; 64],
+    level: &[u8; 64],
+    limit: &[u8; 64],
+    scope: &[u16; 64],
+    of: &[u64; 12],
+    s: usize,
+    dom: &[u64; 12],
+    effort: &mut u32,
+    plan: &mut [u8; 12],
+) -> Tried
+    requires { ⌜ Massed (size .steps) (size .people) (size .levels) (size .rules) (now mates) (now kind) (now level) (now limit) (now scope)
+        × (length (now of) ≡ 12) × (length (now dom) ≡ 12) × (length (now plan) ≡ 12) × Alone s (now dom) ⌝ }
+    ensures { λ r. ⌜ Trial (jobIn (size .steps) (size .people) (size .levels) (now (mates .entry)) (size .rules) (now (kind .entry)) (now (level .entry)) (now (limit .entry)) (now (scope .entry)))
+        (now (dom .entry)) (now (plan .exit)) r × (length (now (plan .exit)) ≡ 12) ⌝ }
+{
+    if s >= size.steps {
+        return finish(size, mates, kind, level, limit, scope, dom, plan);
+    }
+    let mut left = dom[s];
+    while left != 0 {
+        if *effort == 0 {
+            return Tried::Tired;
+        }
+        *effort = *effort - 1;
+        let p = lowest(left);
+        left = without(left, p);
+        let tried = branch(
+            size,
+            mates,
+            kind,
+            level,
+            limit,
+            scope,
+            of,
+            s,
+            p,
+            dom,
+            effort,
+            plan,
+        );
+        match tried {
+            Tried::Found => {
+                return Tried::Found;
+            }
+            Tried::Tired => {
+                return Tried::Tired;
+            }
+            Tried::Unsatisfiable => {
+                continue;
+            }
+        }
+    }
+    Tried::Unsatisfiable
+}
+
+// The first plan of those permitted, where it is found with this effort.
+fn from_masks(
+    size: Size,
+    mates: &[u64; 192],
+    kind: &[u8; 64],
+    level: &[u8; 64],
+    limit: &[u8; 64],
+    scope: &[u16; 64],
+    of: &[u64; 12],
+    may: &[u64; 12],
+    effort: u32,
+    plan: &mut [u8; 12],
+) -> Tried
+    requires { ⌜ Massed (size .steps) (size .people) (size .levels) (size .rules) (now mates) (now kind) (now level) (now limit) (now scope)
+        × (length (now of) ≡ 12) × (length (now may) ≡ 12) × (length (now plan) ≡ 12) ⌝ }
+    ensures { λ r. ⌜ Trial (jobIn (size .steps) (size .people) (size .levels) (now (mates .entry)) (size .rules) (now (kind .entry)) (now (level .entry)) (now (limit .entry)) (now (scope .entry)))
+        (now (may .entry)) (now (plan .exit)) r × (length (now (plan .exit)) ≡ 12) ⌝ }
+{
+    let mut dom = *may;
+    let mut rest = effort;
+    if !propagate(
+        size,
+        mates,
+        kind,
+        level,
+        limit,
+        scope,
+        of,
+        ALL,
+        &mut dom,
+        &mut rest,
+    ) {
+        return Tried::Unsatisfiable;
+    }
+    extend(
+        size,
+        mates,
+        kind,
+        level,
+        limit,
+        scope,
+        of,
+        0,
+        &dom,
+        &mut rest,
+        plan,
+    )
+}
+
+// The first plan of a job, where it is found with this effort.
+pub fn attempt(
+    size: Size,
+    class: &[u8; 192],
+    kind: &[u8; 64],
+    level: &[u8; 64],
+    limit: &[u8; 64],
+    scope: &[u16; 64],
+    may: &[u64; 12],
+    effort: u32,
+    plan: &mut [u8; 12],
+) -> Tried
+    requires { ⌜ Given (size .steps) (size .people) (size .levels) (size .rules) (now class) (now kind) (now level) (now limit) (now scope)
+        × (length (now may) ≡ 12) × (length (now plan) ≡ 12) ⌝ }
+    ensures { λ r. ⌜ Trial (jobIn (size .steps) (size .people) (size .levels) (now (class .entry)) (size .rules) (now (kind .entry)) (now (level .entry)) (now (limit .entry)) (now (scope .entry)))
+        (now (may .entry)) (now (plan .exit)) r × (length (now (plan .exit)) ≡ 12) ⌝ }
+{
+    let masks = mates(size.people, size.levels, class);
+    let of = naming(size.steps, size.rules, scope);
+    from_masks(
+        size,
+        &masks,
+        kind,
+        level,
+        limit,
+        scope,
+        &of,
+        may,
+        effort,
+        plan,
+    )
+}

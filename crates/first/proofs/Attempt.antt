@@ -1,0 +1,20 @@
+-- What the search over people says of the first plan. Assumes nothing.
+use mathlib.Core.Bool.{true, false}
+use mathlib.Core.List.{List}
+use mathlib.Core.Path.{_≡_}
+use Prim.Native.Nat.{ℕ}
+use Rattle.workflow.specs.Problem.{Job}
+use Rattle.workflow.specs.First.{firstPlan}
+use Rattle.workflow.proofs.First.{first-plan-given, no-valid-plan}
+use Rattle.pattern.specs.Tables.{mayIn, planIn}
+use Rattle.backtrack.specs.Trial.{Trial}
+use Rattle.backtrack.specs.declared.Tried.the-variants.{Found, Unsatisfiable}
+use Rattle.first.specs.Settle.{answer}
+
+pub first-found : (j : Job) (may plan : List ℕ) → Trial j may plan Found → firstPlan j (mayIn may) ≡ answer (j .steps) true plan
+unfolding Trial
+first-found j may plan t = first-plan-given j (mayIn may) (planIn plan) t
+
+pub first-absent : (j : Job) (may plan : List ℕ) → Trial j may plan Unsatisfiable → firstPlan j (mayIn may) ≡ answer (j .steps) false plan
+unfolding Trial
+first-absent j may plan t = no-valid-plan j (mayIn may) (λ π v. t (π, v))

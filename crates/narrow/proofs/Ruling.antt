@@ -1,0 +1,251 @@
+-- What a rule leaves to its open steps: at the upper end of its interval only people of the classes that are had, at the lower end only
+-- others, and where it has one class only people who share one with somebody of each step. Assumes nothing.
+use mathlib.Core.Bool.{Bool, true, false, not, _&&_, _||_, or-false, and-true}
+use mathlib.Core.List.{List}
+use mathlib.Core.Path.{_≡_, refl, sym, subst, ap, _∙_}
+use Prim.Native.Nat.{ℕ, suc, _+_, _^_, _≤_, _<_}
+use native.Mathlib.Omega.{arith}
+use lib.Count.{ones}
+use lib.Dec.{eqb}
+use lib.ListN.{length}
+use borrow.Author.Tests.{eqb-true, eqb-false, eq-eqb, ne-eqb, not-true}
+use Rattle.bits.specs.Below.{count}
+use Rattle.bits.specs.Word.{hasBit}
+use Rattle.bits.proofs.Below.{by-cases, true-false, and-right}
+use Rattle.bits.proofs.Counting.{and-of, is-false, count-le, count-insert}
+use Rattle.bits.proofs.SetLaws.{empty-lacks}
+use Rattle.workflow.specs.Problem.{Rule, Job, Plan, Met, RuleOk, classCount, distinct, Pair}
+use Rattle.workflow.specs.Interval.{lowest, highest}
+use Rattle.workflow.proofs.Occurs.{distinct-scope-mono, distinct-scope-split}
+use Rattle.workflow.proofs.Rules.{met-interval, distinct-of-pair}
+use Rattle.pattern.proofs.Counted.{Adds, distinct-joins, distinct-new}
+use Rattle.pattern.proofs.Same.{distinct-scope-cong}
+use Rattle.narrow.specs.Domains.{Takes, Revised}
+use Rattle.narrow.specs.Fixing.{settled, Fixing}
+use Rattle.narrow.specs.Narrowing.{Joins, Common, Spared, Restricted}
+use Rattle.narrow.specs.Spreading.{Spread, Short}
+use Rattle.narrow.proofs.Masks.{or-cases, or-left, or-right, bits-below, ones-count}
+use Rattle.narrow.proofs.Settling.{settled-of, settled-scope, settled-narrow, bound-of}
+use Rattle.narrow.proofs.Spreading.{count-spread}
+use Rattle.narrow.proofs.Restricting.{fewer-same}
+
+-- steps of a scope with one class have the same
+pub one-class : (n : ℕ) (scope : ℕ → Bool) (c : ℕ → ℕ) (s t : ℕ) → s < n → t < n → scope s ≡ true → scope t ≡ true → distinct n scope c ≤ 1 → c s ≡ c t
+one-class n scope c s t l m h k few =
+    by-cases (eqb s t)
+    (λ x. ap c (eqb-true s t x))
+    (λ x. by-cases (eqb (c s) (c t)) (λ y. eqb-true (c s) (c t) y)
+    (λ y.
+    let two : distinct n both c ≡ 2 = distinct-of-pair n both c s t (pair (eqb-false s t x)) .1 (eqb-false (c s) (c t) y) in
+    let le : distinct n both c ≤ distinct n scope c
+    = distinct-scope-mono n c both scope
+    (λ u b i. or-cases (eqb u s) (eqb u t) i
+    (λ e. subst (λ (z : ℕ). scope z ≡ true) (sym (eqb-true u s e)) h)
+    (λ e. subst (λ (z : ℕ). scope z ≡ true) (sym (eqb-true u t e)) k)) in
+    absurd (omega arith)))
+  where
+    both : ℕ → Bool
+    both u = eqb u s || eqb u t
+
+    pair : (s ≡ t → ⊥) → Pair n both s t
+    pair d =
+        record {
+          first = l;
+          second = m;
+          differ = d;
+          has-first = or-left (eqb s s) (eqb s t) (eq-eqb s s refl);
+          has-second = or-right (eqb t s) (eqb t t) (eq-eqb t t refl);
+          only = λ u b x y. ap (λ (z : Bool). z || eqb u t) (ne-eqb u s x) ∙ ne-eqb u t y;
+        }
+
+module _ (steps people : ℕ) (c : ℕ → ℕ) (scope : ℕ) (dom : List ℕ) (used heads wide : ℕ) (f : Fixing steps people c scope dom 0 used heads wide)
+    (π : Plan) (takes : Takes steps people dom π) where
+  -- between the classes that are had, and one more for each open step
+  pub count-from : count steps (hasBit heads) ≤ distinct steps (hasBit scope) (λ u. c (π u))
+  count-from =
+      let a : count steps (hasBit heads) ≡ distinct steps (settled scope wide 0) (λ u. c (π u)) = f .number π takes in
+      let b : distinct steps (settled scope wide 0) (λ u. c (π u)) ≤ distinct steps (hasBit scope) (λ u. c (π u))
+      = distinct-scope-mono steps (λ u. c (π u)) (settled scope wide 0) (hasBit scope) (λ u l h. settled-scope scope wide 0 u h) in
+      omega arith
+
+  pub count-to : distinct steps (hasBit scope) (λ u. c (π u)) ≤ count steps (hasBit heads) + count steps (hasBit wide)
+  count-to =
+      let a : count steps (hasBit heads) ≡ distinct steps (settled scope wide 0) (λ u. c (π u)) = f .number π takes in
+      let b : distinct steps (hasBit scope) (λ u. c (π u)) ≤ distinct steps (settled scope wide 0) (λ u. c (π u)) + count steps (hasBit wide)
+      = distinct-scope-split steps (λ u. c (π u)) (hasBit scope) (settled scope wide 0) (hasBit wide)
+      (λ u l h d. by-cases (hasBit wide u) (λ t. t) (λ t. true-false (settled-of scope wide 0 u h t (empty-lacks u)) d)) in
+      omega arith
+
+  module _ (t : ℕ) (is-open : hasBit wide t ≡ true) where
+    below : t < steps
+    below = f .part t is-open .0
+
+    -- the settled steps and t
+    adds : Adds steps (settled scope wide 0) (λ u. settled scope wide 0 u || eqb u t) t
+    adds =
+        record {
+          below = below;
+          lacks = is-false _ (λ h. true-false is-open (settled-narrow scope wide 0 t h));
+          has = or-right (settled scope wide 0 t) (eqb t t) (eq-eqb t t refl);
+          others = λ u d. sym (ap (_||_ (settled scope wide 0 u)) (ne-eqb u t d) ∙ or-false (settled scope wide 0 u));
+        }
+
+    -- at the upper end, t joins a class that is had
+    pub joins-used : distinct steps (hasBit scope) (λ u. c (π u)) ≤ count steps (hasBit heads) → hasBit used (π t) ≡ true
+    joins-used most =
+        by-cases (hasBit used (π t)) (λ h. h)
+        (λ h.
+        let b = bound-of steps (λ u. c (π u)) in
+        let g : count steps (hasBit heads) ≡ distinct steps (settled scope wide 0) (λ u. c (π u)) = f .number π takes in
+        let more : distinct steps (λ u. settled scope wide 0 u || eqb u t) (λ u. c (π u)) ≡ suc (distinct steps (settled scope wide 0) (λ u. c (π u)))
+        = distinct-new steps (b .0) (settled scope wide 0) (λ u. settled scope wide 0 u || eqb u t) (λ u. c (π u)) t adds (λ u l i. b .1 u l)
+        (λ u l i e. true-false (f .classes-of π takes (π t) u (takes .within t below) l i (sym e)) h) in
+        let le : distinct steps (λ u. settled scope wide 0 u || eqb u t) (λ u. c (π u)) ≤ distinct steps (hasBit scope) (λ u. c (π u))
+        = distinct-scope-mono steps (λ u. c (π u)) (λ u. settled scope wide 0 u || eqb u t) (hasBit scope)
+        (λ u l i. or-cases (settled scope wide 0 u) (eqb u t) i (λ x. settled-scope scope wide 0 u x)
+        (λ x. subst (λ (z : ℕ). hasBit scope z ≡ true) (sym (eqb-true u t x)) (f .part t is-open .1))) in
+        absurd (omega arith))
+
+    -- at the lower end, it joins none
+    pub avoids-used : count steps (hasBit heads) + count steps (hasBit wide) ≤ distinct steps (hasBit scope) (λ u. c (π u)) → hasBit used (π t) ≡ false
+    avoids-used least =
+        is-false _
+        (λ h.
+        let b = bound-of steps (λ u. c (π u)) in
+        let o = f .people-of π takes (π t) (takes .within t below) h in
+        let g : count steps (hasBit heads) ≡ distinct steps (settled scope wide 0) (λ u. c (π u)) = f .number π takes in
+        let same : distinct steps (λ u. settled scope wide 0 u || eqb u t) (λ u. c (π u)) ≡ distinct steps (settled scope wide 0) (λ u. c (π u))
+        = distinct-joins steps (b .0) (settled scope wide 0) (λ u. settled scope wide 0 u || eqb u t) (λ u. c (π u)) t adds (λ u l i. b .1 u l)
+        (o .0) (o .1) (o .2) (sym (o .3)) in
+        let le : distinct steps (hasBit scope) (λ u. c (π u))
+        ≤ distinct steps (λ u. settled scope wide 0 u || eqb u t) (λ u. c (π u)) + count steps (λ u. hasBit wide u && not (eqb u t))
+        = distinct-scope-split steps (λ u. c (π u)) (hasBit scope) (λ u. settled scope wide 0 u || eqb u t) (λ u. hasBit wide u && not (eqb u t))
+        (λ u l i d. by-cases (hasBit wide u)
+        (λ x. and-of (hasBit wide u) (not (eqb u t)) x
+        (ap not (is-false (eqb u t) (λ y. true-false (or-right (settled scope wide 0 u) (eqb u t) y) d))))
+        (λ x. true-false (or-left (settled scope wide 0 u) (eqb u t) (settled-of scope wide 0 u i x (empty-lacks u))) d)) in
+        let fewer : count steps (hasBit wide) ≡ suc (count steps (λ u. hasBit wide u && not (eqb u t)))
+        = count-insert steps (λ u. hasBit wide u && not (eqb u t)) (hasBit wide) t below
+        (is-false _ (λ x. true-false (eq-eqb t t refl) (not-true _ (and-right (hasBit wide t) _ x))))
+        is-open
+        (λ u l d. ap (λ (z : Bool). hasBit wide u && not z) (ne-eqb u t d) ∙ and-true (hasBit wide u)) in
+        omega arith)
+
+-- a rule of a job, and what the domains settle of its count
+pub record Settled (j : Job) (r : Rule) (scope : ℕ) (dom : List ℕ) (used heads wide : ℕ) : Type 0 where
+  pub ok : RuleOk (j .steps) (j .levels) r
+  pub small : j .steps ≤ 12
+  pub same : (s : ℕ) → r .scope s ≡ hasBit scope s
+  pub sized : length dom ≡ 12
+  pub fixing : Fixing (j .steps) (j .people) (j .class (r .level)) scope dom 0 used heads wide
+
+module _ {j : Job} {r : Rule} {scope : ℕ} {dom : List ℕ} {used heads wide : ℕ} (w : Settled j r scope dom used heads wide) where
+  f : Fixing (j .steps) (j .people) (j .class (r .level)) scope dom 0 used heads wide
+  f = w .fixing
+
+  heads-count : ones heads ≡ count (j .steps) (hasBit heads)
+  heads-count =
+      ones-count (j .steps) heads (omega (arith, w .small))
+      (let z : heads < 2 ^ 12 = bits-below 12 heads (λ s h. omega (arith, w .small, f .few s h)) in omega arith) (f .few)
+
+  wide-below : (s : ℕ) → hasBit wide s ≡ true → s < j .steps
+  wide-below s h = f .part s h .0
+
+  pub wide-small : wide < 4096
+  wide-small = bits-below 12 wide (λ s h. omega (arith, w .small, wide-below s h))
+
+  wide-count : ones wide ≡ count (j .steps) (hasBit wide)
+  wide-count = ones-count (j .steps) wide (omega (arith, w .small)) (omega (arith, wide-small)) wide-below
+
+  pub heads-few : ones heads ≤ 12
+  heads-few = omega (arith, w .small, heads-count, count-le (j .steps) (hasBit heads))
+
+  pub wide-few : ones wide ≤ 12
+  wide-few = omega (arith, w .small, wide-count, count-le (j .steps) (hasBit wide))
+
+  module _ (π : Plan) (met : Met j r π) (takes : Takes (j .steps) (j .people) dom π) where
+    counted : classCount j r π ≡ distinct (j .steps) (hasBit scope) (λ u. j .class (r .level) (π u))
+    counted = distinct-scope-cong (j .steps) (r .scope) (hasBit scope) (λ u. j .class (r .level) (π u)) (λ u l. w .same u)
+
+    from-least : lowest (r .kind) (r .limit) ≤ distinct (j .steps) (hasBit scope) (λ u. j .class (r .level) (π u))
+    from-least = omega (arith, counted, met-interval j r (w .ok) π .0 met .least)
+
+    to-most : distinct (j .steps) (hasBit scope) (λ u. j .class (r .level) (π u)) ≤ highest (r .kind) (r .limit) (j .steps)
+    to-most = omega (arith, counted, met-interval j r (w .ok) π .0 met .most)
+
+    from-heads : ones heads ≤ distinct (j .steps) (hasBit scope) (λ u. j .class (r .level) (π u))
+    from-heads = omega (arith, heads-count, count-from (j .steps) (j .people) (j .class (r .level)) scope dom used heads wide f π takes)
+
+    to-wide : distinct (j .steps) (hasBit scope) (λ u. j .class (r .level) (π u)) ≤ ones heads + ones wide
+    to-wide = omega (arith, heads-count, wide-count, count-to (j .steps) (j .people) (j .class (r .level)) scope dom used heads wide f π takes)
+
+    to-spread : (number : ℕ) → Spread (j .people) (j .class (r .level)) wide used dom number
+        → distinct (j .steps) (hasBit scope) (λ u. j .class (r .level) (π u)) ≤ ones heads + number
+    to-spread number s =
+        omega (arith, heads-count, count-spread (j .steps) (j .people) (j .class (r .level)) scope dom used heads wide number f s π takes)
+
+    at-most : (t : ℕ) → hasBit wide t ≡ true → ones heads ≡ highest (r .kind) (r .limit) (j .steps) → hasBit used (π t) ≡ true
+    at-most t h e =
+        joins-used (j .steps) (j .people) (j .class (r .level)) scope dom used heads wide f π takes t h (omega (arith, heads-count, to-most))
+
+    at-least : (t : ℕ) → hasBit wide t ≡ true → ones heads + ones wide ≡ lowest (r .kind) (r .limit) → hasBit used (π t) ≡ false
+    at-least t h e =
+        avoids-used (j .steps) (j .people) (j .class (r .level)) scope dom used heads wide f π takes t h (omega (arith, heads-count, wide-count, from-least))
+
+    -- with one class, somebody of each open step is of the class of t
+    at-one : (t : ℕ) → hasBit wide t ≡ true → highest (r .kind) (r .limit) (j .steps) ≡ 1
+        → (s : ℕ) → hasBit wide s ≡ true → Joins (j .people) (j .class (r .level)) dom s (π t)
+    at-one t h e s k =
+        let a = f .part s k in
+        let b = f .part t h in (
+          π s,
+          takes .within s (a .0),
+          takes .among s (a .0),
+          one-class (j .steps) (hasBit scope) (λ u. j .class (r .level) (π u)) s t (a .0) (b .0) (a .1) (b .1) (omega (arith, to-most)),
+        )
+
+  -- no plan of the domains meets the rule
+  hopeless : ((π : Plan) → Met j r π → Takes (j .steps) (j .people) dom π → ⊥) → Revised j r dom dom true
+  hopeless no-plan = record { fewer = fewer-same dom (w .sized); kept = λ t. true-false refl t; lost = λ t. no-plan }
+
+  pub too-many : (most : ℕ) → most ≡ highest (r .kind) (r .limit) (j .steps) → most < ones heads → Revised j r dom dom true × (0 < 4096)
+  too-many most e l = (hopeless (λ π met takes. omega (arith, from-heads π met takes, to-most π met takes)), omega arith)
+
+  pub too-few : (least : ℕ) → least ≡ lowest (r .kind) (r .limit) → ones heads + ones wide < least → Revised j r dom dom true × (0 < 4096)
+  too-few least e l = (hopeless (λ π met takes. omega (arith, to-wide π met takes, from-least π met takes)), omega arith)
+
+  pub too-short : (least : ℕ) → least ≡ lowest (r .kind) (r .limit) → Short (j .people) (j .class (r .level)) wide used dom (ones heads) least
+      → Revised j r dom dom true × (0 < 4096)
+  too-short least e s = (hopeless (λ π met takes. omega (arith, s .less, to-spread π met takes (s .number) (s .spread), from-least π met takes)), omega arith)
+
+  module _ {crew : ℕ} {dom′ : List ℕ} {failed : Bool} {changed : ℕ} (cut : Restricted wide crew dom dom′ failed changed) where
+    -- the open steps of every plan that meets the rule have only such people
+    by-people : ((π : Plan) → Met j r π → Takes (j .steps) (j .people) dom π → (t : ℕ) → hasBit wide t ≡ true → hasBit crew (π t) ≡ true)
+        → Revised j r dom dom′ failed × (changed < 4096)
+    by-people such = (
+      record {
+        fewer = cut .done .fewer;
+        kept = λ e π met takes.
+            record {
+              within = takes .within;
+              among = λ s l. cut .done .keeps s (π s) (takes .among s l) (λ h. such π met takes s h);
+            };
+        lost = λ e π met takes.
+            let o = cut .lost e in
+            o .2 (π (o .0)) (takes .among (o .0) (wide-below (o .0) (o .1))) (such π met takes (o .0) (o .1));
+      },
+      bits-below 12 changed (λ s h. omega (arith, w .small, wide-below s (cut .done .among s h))),
+    )
+
+    pub with-common : (most : ℕ) → most ≡ highest (r .kind) (r .limit) (j .steps) → most ≡ 1 → Common (j .people) (j .class (r .level)) wide dom 0 crew
+        → Revised j r dom dom′ failed × (changed < 4096)
+    with-common most e one common =
+        by-people
+        (λ π met takes t h. common (π t) (takes .within t (wide-below t h)) (λ s k _. at-one π met takes t h (omega arith) s k))
+
+    pub with-left : (least most : ℕ) → least ≡ lowest (r .kind) (r .limit) → most ≡ highest (r .kind) (r .limit) (j .steps) → j .people ≤ 64
+        → Spared used (ones heads) (ones wide) least most crew → Revised j r dom dom′ failed × (changed < 4096)
+    with-left least most d e few spared =
+        by-people
+        (λ π met takes t h. spared (π t) (omega (arith, takes .within t (wide-below t h)))
+        (λ x. at-most π met takes t h (x ∙ e)) (λ x. at-least π met takes t h (x ∙ d)))

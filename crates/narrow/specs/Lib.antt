@@ -1,0 +1,4 @@
+pub mod Domains
+pub mod Fixing
+pub mod Narrowing
+pub mod Spreading

@@ -1,0 +1,6 @@
+// Domains, the people who may still do each step, narrowed by the rules.
+pub mod fixed;
+pub mod mates;
+pub mod propagate;
+pub mod revise;
+pub mod spread;

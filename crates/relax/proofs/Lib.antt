@@ -1,0 +1,2 @@
+pub mod Coarser
+pub mod Carrying
