@@ -3,7 +3,9 @@
 PREFIX ?= /usr/local
 SHEET ?= crates/planner/stdin
 LIB = target/staticlib/libfulmarinvar.a
+WALKS = target/staticlib/libwalks.a
 PLANNER = target/bin/planner
+PROVED := $(shell find crates -name '*.rt' -o -name '*.antt') crates.txt
 
 # need TOOL: says what is missing
 need = command -v $(1) > /dev/null || { echo "$(1) is missing: it has to be on the PATH" >&2; exit 1; }
@@ -20,37 +22,47 @@ test:
 check:
 	@rt check
 
-$(PLANNER): $(shell find crates -name '*.rt' -o -name '*.antt') crates.txt
+$(PLANNER): $(PROVED)
 	@$(call need,rt)
 	@echo "proving and building the planner: some minutes the first time" >&2
 	@rt check planner >&2
 	@touch $@
 
-$(LIB): $(shell find crates -name '*.rt' -o -name '*.antt') crates.txt
+$(LIB): $(PROVED)
 	@$(call need,rt)
 	@echo "proving and building the library: some minutes the first time" >&2
 	@rt staticlib fulmarinvar >&2
 	@touch $@
 
+# The walk of the spare call with a count of its searches: for measurements alone.
+$(WALKS): $(PROVED)
+	@$(call need,rt)
+	@echo "proving and building the walk to be measured: some minutes the first time" >&2
+	@rt staticlib walks >&2
+	@touch $@
+
 BENCH = cargo run --release --offline --quiet --manifest-path bench/Cargo.toml --
 
-# Times of both calls beside a hand-written search, then beside MiniSat, clingo and SAT4J, as far as they are there; the
-# tables, target/measured.csv and target/peers.csv.
-bench: $(LIB)
+# Times of both calls beside a hand-written search, then beside MiniSat, clingo and SAT4J, as far as they are there, then
+# of the spare count without kept plans; the tables, target/measured.csv, target/peers.csv and target/walk.csv.
+bench: $(LIB) $(WALKS)
 	@$(call need,cargo)
 	@$(BENCH) measure target/measured.csv
 	@$(BENCH) peers target/peers.csv
+	@$(BENCH) walk target/walk.csv
 
 # The same into bench/recorded, and what docs/BENCHMARKS.md shows of it.
-record: $(LIB)
+record: $(LIB) $(WALKS)
 	@$(call need,cargo)
 	@$(call need,python3)
+	@mkdir -p bench/recorded
 	@$(BENCH) measure bench/recorded/measured.csv
 	@$(BENCH) peers bench/recorded/peers.csv
+	@$(BENCH) walk bench/recorded/walk.csv
 	@python3 bench/plot --into docs/BENCHMARKS.md
 
 # Looks for sheets that make the planner slow, for SECONDS seconds, from SEED on; the worst go to target/hard.
-climb: $(LIB)
+climb: $(LIB) $(WALKS)
 	@$(call need,cargo)
 	@$(BENCH) climb target/hard --seconds $(or $(SECONDS),300) --seed $(or $(SEED),1)
 

@@ -1,11 +1,12 @@
 """Tables and plots from recorded files.
 
-usage: python3 bench/plot [--measured CSV] [--peers CSV] [--plots DIR] [--into FILE]
+usage: python3 bench/plot [--measured CSV] [--peers CSV] [--walk CSV] [--plots DIR] [--into FILE]
   --measured  from 'bench measure', bench/recorded/measured.csv unless given
   --peers     from 'bench peers', bench/recorded/peers.csv unless given
+  --walk      from 'bench walk', bench/recorded/walk.csv unless given
   --plots     where the plots go, docs/plots unless given
   --into      a text that has a line '<!-- NAME -->' before and '<!-- end NAME -->' after the place of a table; without it
-              the tables are printed. The names are practice, others, peers, slower
+              the tables are printed. The names are practice, others, peers, slower, walk
 A file that is missing is left out.
 """
 
@@ -27,6 +28,7 @@ def arguments():
     parser = argparse.ArgumentParser(description="Tables and plots from recorded files.")
     parser.add_argument("--measured", type=Path, default=ROOT / "bench/recorded/measured.csv")
     parser.add_argument("--peers", type=Path, default=ROOT / "bench/recorded/peers.csv")
+    parser.add_argument("--walk", type=Path, default=ROOT / "bench/recorded/walk.csv")
     parser.add_argument("--plots", type=Path, default=ROOT / "docs/plots")
     parser.add_argument("--into", type=Path)
     return parser.parse_args()
@@ -39,7 +41,7 @@ def record(path):
     return None
 
 
-def made(measured, peers):
+def made(measured, peers, walk):
     """Tables by name and plots by file."""
     named, drawn = {}, {}
     if measured:
@@ -54,6 +56,8 @@ def made(measured, peers):
         named["slower"] = tables.slower_than(peers)
         for solver in TIME_OF:
             drawn[f"against-{solver}.svg"] = plots.against_peer(peers, solver)
+    if walk:
+        named["walk"] = f"{walk.origin()}\n\n{tables.walk(walk)}"
     return named, drawn
 
 
@@ -68,7 +72,7 @@ def put(text, name, table):
 
 def main():
     given = arguments()
-    named, drawn = made(record(given.measured), record(given.peers))
+    named, drawn = made(record(given.measured), record(given.peers), record(given.walk))
     given.plots.mkdir(parents=True, exist_ok=True)
     for file, svg in drawn.items():
         if svg:

@@ -45,9 +45,14 @@ def family(group):
     return "other"
 
 
+def number(row, column):
+    """One that is missing was late: worse than all others, so that no figure looks better."""
+    return float(row[column]) if row[column] else math.inf
+
+
 def micros(row, column):
-    """A time in microseconds. One that is missing was late: slower than all others, so that no figure looks better."""
-    return float(row[column]) / 1000 if row[column] else math.inf
+    """A time in microseconds, late where it is missing."""
+    return number(row, column) / 1000
 
 
 def at(times, share):

@@ -2,13 +2,17 @@
 
 import math
 
-from records import TIME_OF, at, family, median, micros, practice_rules
+from records import TIME_OF, at, family, median, micros, number, practice_rules
 
 
 def time(value):
     if math.isinf(value):
         return "late"
     return f"{value:,.1f}" if value < 100 else f"{value:,.0f}"
+
+
+def count(value):
+    return "late" if math.isinf(value) else f"{value:,.0f}"
 
 
 def ratio(ours, theirs):
@@ -22,6 +26,10 @@ def table(heading, rows):
 
 def column(rows, name):
     return [micros(row, name) for row in rows]
+
+
+def numbers(rows, name):
+    return [number(row, name) for row in rows]
 
 
 def with_plan(rows):
@@ -100,3 +108,23 @@ def slower_than(record, times=10):
     if not lines:
         return f"None takes {times} times as long as a solver.\n"
     return table(["sheets of", "sheet", "solver", "asked for", "crew", "wall"], lines)
+
+
+def walk(record):
+    """The spare count with kept plans, beside the same walk without them: searches and times of each; then the spare call."""
+    heading = ["rules", "sheets with a plan"]
+    for name in ("kept", "without"):
+        heading += [f"{name}, searches: median", "p99", "worst", f"{name}, time: median", "p99", "worst", "late"]
+    groups = [(str(practice_rules(group)), record.of(group=group)) for group in record.groups()]
+    lines = []
+    for name, rows in [*groups, ("all of these", record.rows)]:
+        line = [name, str(len(rows))]
+        for of in ("kept", "without"):
+            searches, times = numbers(rows, f"{of}_searches"), column(rows, f"{of}_ns")
+            line += [count(value) for value in (median(searches), at(searches, 0.99), max(searches))]
+            line += [time(value) for value in (median(times), at(times, 0.99), max(times))]
+            line.append(str(sum(map(math.isinf, times))))
+        spare = column(rows, "spare_ns")
+        different = sum(row["differences"] != "" for row in rows)
+        lines.append([*line, time(median(spare)), time(max(spare)), str(different)])
+    return table([*heading, "spare call median", "worst", "different"], lines)

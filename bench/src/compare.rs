@@ -10,8 +10,8 @@ use std::time::Duration;
 pub const USAGE: &str = "bench measure CSV [--sheets N] [--limit-ms N] [--late-ms N] [GROUP...]
   CSV         the file for a line a sheet
   --sheets    sheets in each group, 60 unless given
-  --limit-ms  time for one hand-written search, 50 unless given
-  --late-ms   time for one call of the library, 2000 unless given
+  --limit-ms  time for one hand-written search, 100 unless given
+  --late-ms   time for one call of the library, 1000 unless given
   GROUP       only these; 'practice' stands for all that begin with 'practice-'
 In the table 'crew' and 'spare' (cap 3) are the library, reading included; 'first' and 'any' are the hand-written search
 for the first plan and for any plan, and 'hand' is its spare count, the job already read. 'late' counts what ran out of
@@ -26,8 +26,8 @@ pub struct Order {
 
 pub fn order(mut args: Vec<String>) -> Option<Order> {
     let sheets = option(&mut args, "--sheets", 60)?;
-    let hand = Duration::from_millis(option(&mut args, "--limit-ms", 50)?);
-    let library = Duration::from_millis(option(&mut args, "--late-ms", 2_000)?);
+    let hand = Duration::from_millis(option(&mut args, "--limit-ms", 100)?);
+    let library = Duration::from_millis(option(&mut args, "--late-ms", 1_000)?);
     if args.is_empty() || sheets == 0 || has_option(&args) {
         return None;
     }

@@ -42,8 +42,13 @@ fn hard_group() -> Group {
     Group { name: "hard".to_string(), sheets, job: Box::new(move |number| jobs[number as usize - 1].clone()) }
 }
 
+/// The practice sheets of full size.
+pub fn full_practice() -> Vec<Group> {
+    PRACTICE_RULES.into_iter().map(practice_group).collect()
+}
+
 pub fn all() -> Vec<Group> {
-    let mut groups: Vec<Group> = PRACTICE_RULES.into_iter().map(practice_group).collect();
+    let mut groups = full_practice();
     groups.push(Group {
         name: "practice-range".to_string(),
         sheets: u32::MAX,

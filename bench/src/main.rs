@@ -16,6 +16,7 @@ mod problem;
 mod randoms;
 mod record;
 mod table;
+mod walk;
 mod worker;
 
 use std::env;
@@ -46,6 +47,7 @@ fn run(mut args: Vec<String>) -> io::Result<End> {
         "measure" => compare::order(args).map_or(Ok(End::Misused), |order| compare::run(&order).map(differences)),
         "climb" => climb::order(args).map_or(Ok(End::Misused), |order| climb::run(&order).map(|()| End::Done)),
         "peers" => peers::order(args).map_or(Ok(End::Misused), |order| peers::run(&order).map(differences)),
+        "walk" => walk::order(args).map_or(Ok(End::Misused), |order| walk::run(&order).map(differences)),
         worker::COMMAND => worker::serve().map(|()| End::Done),
         _ => Ok(End::Misused),
     }
@@ -59,7 +61,7 @@ fn main() -> ExitCode {
             ExitCode::FAILURE
         }
         Ok(End::Misused) => {
-            eprintln!("usage: {}\n\n{}\n\n{}", compare::USAGE, peers::USAGE, climb::USAGE);
+            eprintln!("usage: {}", [compare::USAGE, peers::USAGE, walk::USAGE, climb::USAGE].join("\n\n"));
             ExitCode::from(2)
         }
         Err(error) => {

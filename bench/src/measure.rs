@@ -12,7 +12,7 @@ use sheet_tests::plans::is_valid;
 use std::io;
 use std::time::{Duration, Instant};
 
-const CAP: usize = 3;
+pub const CAP: usize = 3;
 
 /// The longest that one call may take.
 #[derive(Clone, Copy)]

@@ -6,7 +6,7 @@ use crate::measure::Measured;
 /// Which of the times of a sheet.
 type Column = fn(&Measured) -> Nanos;
 
-/// Median, 99th percentile and worst in microseconds, and how many did not finish.
+/// Median, 99th percentile and worst, and how many did not finish.
 pub struct Figures {
     pub median: f64,
     pub high: f64,
@@ -14,17 +14,22 @@ pub struct Figures {
     pub unfinished: usize,
 }
 
-/// A sheet that did not finish counts as slower than all others, so that no figure looks better for it.
-pub fn figures(times: impl Iterator<Item = Nanos>) -> Figures {
-    let mut sorted: Vec<f64> = times.map(|time| time.map_or(f64::INFINITY, |nanos| nanos as f64 / 1_000.0)).collect();
+/// What is missing did not finish: it counts as worse than all others, so that no figure looks better for it.
+pub fn spread(values: impl Iterator<Item = Option<f64>>) -> Figures {
+    let mut sorted: Vec<f64> = values.map(|value| value.unwrap_or(f64::INFINITY)).collect();
     sorted.sort_by(f64::total_cmp);
     let at = |share: f64| sorted[((sorted.len() as f64 * share).ceil() as usize).clamp(1, sorted.len()) - 1];
     Figures {
         median: at(0.5),
         high: at(0.99),
         worst: at(1.0),
-        unfinished: sorted.iter().filter(|time| time.is_infinite()).count(),
+        unfinished: sorted.iter().filter(|value| value.is_infinite()).count(),
     }
+}
+
+/// The figures of times, in microseconds.
+pub fn figures(times: impl Iterator<Item = Nanos>) -> Figures {
+    spread(times.map(|time| time.map(|nanos| nanos as f64 / 1_000.0)))
 }
 
 pub fn time(micros: f64) -> String {

@@ -29,9 +29,9 @@ use table::Line;
 
 pub const USAGE: &str = "bench peers CSV [--sheets N] [--limit-ms N] [--late-ms N] [GROUP...]
   CSV         the file for a line a sheet, solver and question
-  --sheets    sheets in each group, 20 unless given
+  --sheets    sheets in each group, 10 unless given
   --limit-ms  time for one answer of a solver, 1000 unless given; what is late for existence is not asked for a first plan
-  --late-ms   time for one call of the library, 2000 unless given
+  --late-ms   time for one call of the library, 1000 unless given
   GROUP       only these; 'practice' stands for all that begin with 'practice-'
 MiniSat and clingo are processes of their own: 'wall' has their start and their reading, 'own' is the CPU time that they
 print. SAT4J is kept warm in one Java machine: 'wall' is reading and solving, 'own' solving alone. The group 'start' is one
@@ -49,9 +49,9 @@ pub struct Order {
 }
 
 pub fn order(mut args: Vec<String>) -> Option<Order> {
-    let sheets = option(&mut args, "--sheets", 20)?;
+    let sheets = option(&mut args, "--sheets", 10)?;
     let limit = Duration::from_millis(option(&mut args, "--limit-ms", 1_000)?);
-    let library = Duration::from_millis(option(&mut args, "--late-ms", 2_000)?);
+    let library = Duration::from_millis(option(&mut args, "--late-ms", 1_000)?);
     if args.is_empty() || sheets == 0 || has_option(&args) {
         return None;
     }

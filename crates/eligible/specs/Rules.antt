@@ -32,6 +32,20 @@ abbrev pub AllPossible : ℕ → ℕ → List ℕ → List ℕ → List ℕ → 
 AllPossible steps rules kind level limit scope placed label =
     (i : ℕ) → i < rules → Possible steps (hasBit placed) (labelIn label) (ruleIn kind level limit scope i)
 
+-- every rule of the mask, but for those of `rest`, can still be met
+pub record Among (steps among rest : ℕ) (kind level limit scope : List ℕ) (placed : ℕ) (label : List ℕ) : Type 0 where
+  pub part : (i : ℕ) → hasBit rest i ≡ true → hasBit among i ≡ true
+  pub possible : (i : ℕ) → hasBit among i ≡ true → hasBit rest i ≡ false
+      → Possible steps (hasBit placed) (labelIn label) (ruleIn kind level limit scope i)
+
+-- the arrays of the rules, and a pattern with labels at the level of each rule of the mask
+pub record RuledAmong (steps among : ℕ) (kind level limit scope : List ℕ) (placed : ℕ) (label : List ℕ) : Type 0 where
+  pub kinds : length kind ≡ 64
+  pub levels : length level ≡ 64
+  pub limits : length limit ≡ 64
+  pub scopes : length scope ≡ 64
+  pub marked : (i : ℕ) → hasBit among i ≡ true → Marked steps placed (getD level i 0) label
+
 -- the arrays of the rules, and a pattern with labels at each rule's level
 pub record Ruled (steps rules : ℕ) (kind level limit scope : List ℕ) (placed : ℕ) (label : List ℕ) : Type 0 where
   pub most : rules ≤ 64

@@ -1,5 +1,6 @@
 // Eligibility of a pattern: whether each rule can still be met, by the groups of the placed steps
 // and the steps left open.
+use bits::set;
 use bits::small::lowest;
 use bits::small::with;
 use bits::small::without;
@@ -12,7 +13,7 @@ ghost use Rattle.workflow.specs.Problem.{distinct};
 ghost use Rattle.workflow.specs.Interval.{lowest as lowestCount, highest};
 ghost use Rattle.pattern.specs.Eligible.{Possible};
 ghost use Rattle.pattern.specs.Tables.{labelIn, kindIn};
-ghost use Rattle.eligible.specs.Rules.{Says, ruleOf, Marked, AllPossible, Ruled};
+ghost use Rattle.eligible.specs.Rules.{Says, ruleOf, Marked, AllPossible, Ruled, Among, RuledAmong};
 
 // Labels a level.
 const STEPS: usize = 12;
@@ -103,6 +104,39 @@ pub fn eligible(
     ensures { λ r. ⌜ Says r (AllPossible steps rules (now (kind .entry)) (now (level .entry)) (now (limit .entry)) (now (scope .entry)) placed (now (label .entry))) ⌝ }
 {
     for i in 0..rules {
+        if !possible(
+            steps,
+            kind[i],
+            level[i] as usize,
+            limit[i],
+            scope[i],
+            placed,
+            label,
+        ) {
+            return false;
+        }
+    }
+    true
+}
+
+// Whether every rule of a mask can still be met.
+pub fn eligible_among(
+    steps: usize,
+    among: u64,
+    kind: &[u8; 64],
+    level: &[u8; 64],
+    limit: &[u8; 64],
+    scope: &[u16; 64],
+    placed: u16,
+    label: &[u8; 36],
+) -> bool
+    requires { ⌜ RuledAmong steps among (now kind) (now level) (now limit) (now scope) placed (now label) ⌝ }
+    ensures { λ r. ⌜ Says r (Among steps among 0 (now (kind .entry)) (now (level .entry)) (now (limit .entry)) (now (scope .entry)) placed (now (label .entry))) ⌝ }
+{
+    let mut rest = among;
+    while rest != 0 {
+        let i = set::lowest(rest);
+        rest = set::without(rest, i);
         if !possible(
             steps,
             kind[i],

@@ -6,3 +6,4 @@ pub mod Spreading
 pub mod Ruling
 pub mod Restricting
 pub mod Passing
+pub mod Names

@@ -68,3 +68,9 @@ pub record Gathered (people levels : ℕ) (class : List ℕ) (x : ℕ) (crowd : 
 -- classes are named by numbers below 64
 pub record Small (people levels : ℕ) (class : List ℕ) : Type 0 where
   pub each : (q p : ℕ) → 1 ≤ q → q ≤ levels → p < people → classIn class q p < 64
+
+-- `of` has at each step the rules below n that name it
+pub record Naming (n : ℕ) (scope of : List ℕ) : Type 0 where
+  pub sized : length of ≡ 12
+  pub has : (i s : ℕ) → i < n → s < 12 → hasBit (getD scope i 0) s ≡ true → hasBit (getD of s 0) i ≡ true
+  pub below : (i s : ℕ) → s < 12 → hasBit (getD of s 0) i ≡ true → i < n

@@ -3,10 +3,10 @@ use bits::set::with;
 ghost use mathlib.Core.Path.{_≡_};
 ghost use Prim.Native.Nat.{_*_, _≤_};
 ghost use lib.ListN.{length};
-ghost use Rattle.narrow.specs.Domains.{Small, Mated, SameClasses, Gathered};
+ghost use Rattle.narrow.specs.Domains.{Small, Mated, SameClasses, Gathered, Naming};
 
 // The people of each class, at its name; a class is named by a number below 64.
-fn crowds(people: usize, levels: usize, class: &[u8; 192]) -> [u64; 192]
+pub fn crowds(people: usize, levels: usize, class: &[u8; 192]) -> [u64; 192]
     requires { ⌜ (people ≤ 64) × (levels ≤ 3) × (length (now class) ≡ 192) ⌝ }
     ensures { λ r. ⌜ Gathered people levels (now (class .entry)) (levels * 64) r ⌝ }
 {
@@ -36,10 +36,10 @@ pub fn mates(people: usize, levels: usize, class: &[u8; 192]) -> [u64; 192]
     mates
 }
 
-// The rules that name each step, as masks. No promise rests on it.
+// The rules that name each step, as masks.
 pub fn naming(steps: usize, rules: usize, scope: &[u16; 64]) -> [u64; 12]
     requires { ⌜ (steps ≤ 12) × (rules ≤ 64) × (length (now scope) ≡ 64) ⌝ }
-    ensures { λ r. ⌜ length r ≡ 12 ⌝ }
+    ensures { λ r. ⌜ Naming rules (now (scope .entry)) r ⌝ }
 {
     let mut of = [0u64; 12];
     for i in 0..rules {

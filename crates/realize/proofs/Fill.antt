@@ -1,8 +1,8 @@
 -- Writing a plan along a matching, group by group. Assumes nothing.
 use mathlib.Core.Bool.{Bool, true, false}
 use mathlib.Core.List.{List, [], _∷_}
-use mathlib.Core.Path.{_≡_, refl, sym, subst, ap, _∙_}
-use Prim.Native.Nat.{ℕ, zero, suc, _+_, _≤_, _<_}
+use mathlib.Core.Path.{_≡_, refl, sym, subst, _∙_}
+use Prim.Native.Nat.{ℕ, zero, suc, _+_, _*_, _≤_, _<_}
 use native.Mathlib.Numerals.{add-one}
 use native.Mathlib.Omega.{arith}
 use lib.Dec.{eqb, ltb}
@@ -21,7 +21,7 @@ use Rattle.pattern.proofs.Sets.{fibre-in, fibre-at}
 use Rattle.pattern.proofs.Realize.{realizes-mono, realizes-agree, realizes-last, realizes-glue}
 use Rattle.pattern.proofs.Matching.{matching-differ}
 use Rattle.realize.specs.Masks.{Mask}
-use Rattle.realize.specs.Parts.{Part, Crowds}
+use Rattle.realize.specs.Parts.{Part}
 use Rattle.realize.specs.Decision.{Linked, Unhosted}
 use Rattle.realize.specs.Filling.{StaffedBy, Filled, SentGroup, Sent, Settled}
 use Rattle.realize.proofs.Masks.{mask-has, mask-in}
@@ -56,18 +56,18 @@ module _ (heads : ℕ) (edges at : List ℕ) (a : Assignment (inMask heads) (sui
 
 -- ---- the loop over the groups
 
-pub sent-none : {levels : ℕ} {class may label : List ℕ} {q steps heads : ℕ} {at crowd plan : List ℕ}
-    → Sent levels class may label q steps heads heads at crowd plan plan
+pub sent-none : {levels : ℕ} {may label crowd reach : List ℕ} {q steps heads : ℕ} {at plan : List ℕ}
+    → Sent levels may label crowd reach q steps heads heads at plan plan
 sent-none {steps = steps} {plan = plan} =
     record { kept = kept-none steps plan; part = λ g h. h; done = λ g h n. true-false h n }
 
 -- the steps of one group get people, and those of the others keep theirs
-pub sent-next : {levels : ℕ} {class may label : List ℕ} {q steps heads rest : ℕ} {at crowd before plan : List ℕ} (g : ℕ) {rest′ group : ℕ} {plan′ : List ℕ}
-    → Sent levels class may label q steps heads rest at crowd before plan → Removed rest g rest′
+pub sent-next : {levels : ℕ} {may label crowd reach : List ℕ} {q steps heads rest : ℕ} {at before plan : List ℕ} (g : ℕ) {rest′ group : ℕ} {plan′ : List ℕ}
+    → Sent levels may label crowd reach q steps heads rest at before plan → Removed rest g rest′
     → Mask (fibre (hasBit steps) (labelIn label (suc q)) g) group
-    → Filled levels class may label (q + 1) group (getD crowd (getD at g 0) 0) plan plan′
-    → Sent levels class may label q steps heads rest′ at crowd before plan′
-sent-next {levels} {class} {may} {label} {q} {steps} {heads} {rest} {at} {crowd} {before} {plan} g {rest′} {group} {plan′} w gone mask new =
+    → Filled levels may label crowd reach (q + 1) group (getD crowd (q * 64 + getD at g 0) 0) plan plan′
+    → Sent levels may label crowd reach q steps heads rest′ at before plan′
+sent-next {levels} {may} {label} {crowd} {reach} {q} {steps} {heads} {rest} {at} {before} {plan} g {rest′} {group} {plan′} w gone mask new =
     record {
       kept = record {
         sized = new .kept .sized ∙ w .kept .sized;
@@ -76,7 +76,7 @@ sent-next {levels} {class} {may} {label} {q} {steps} {heads} {rest} {at} {crowd}
       part = λ k h. w .part k (removed-was gone k h);
       done = λ k h n.
           by-cases (eqb k g)
-          (λ t. subst (λ (x : ℕ). SentGroup levels class may label q steps x (getD crowd (getD at x 0) 0) plan′) (sym (eqb-true k g t))
+          (λ t. subst (λ (x : ℕ). SentGroup levels may label crowd reach q steps x (getD crowd (q * 64 + getD at x 0) 0) plan′) (sym (eqb-true k g t))
           (record { group = group; mask = mask; realizes = new .realizes }))
           (λ t. let d : k ≡ g → ⊥ = eqb-false k g t in
           let old = w .done k h (sym (removed-other gone k d) ∙ n) in
@@ -97,73 +97,72 @@ sent-next {levels} {class} {may} {label} {q} {steps} {heads} {rest} {at} {crowd}
     outside : (s : ℕ) → (hasBit group s ≡ true → ⊥) → hasBit group s ≡ false
     outside s d = by-cases (hasBit group s) (λ t. absurd (d t)) (λ t. t)
 
-pub sent-all : {levels : ℕ} {class may label : List ℕ} {q steps heads rest : ℕ} {at crowd before plan : List ℕ}
-    → Sent levels class may label q steps heads rest at crowd before plan → rest ≡ 0 → Sent levels class may label q steps heads 0 at crowd before plan
-sent-all {levels} {class} {may} {label} {q} {steps} {heads} {rest} {at} {crowd} {before} {plan} w e =
-    subst (λ (x : ℕ). Sent levels class may label q steps heads x at crowd before plan) e w
+pub sent-all : {levels : ℕ} {may label crowd reach : List ℕ} {q steps heads rest : ℕ} {at before plan : List ℕ}
+    → Sent levels may label crowd reach q steps heads rest at before plan → rest ≡ 0 → Sent levels may label crowd reach q steps heads 0 at before plan
+sent-all {levels} {may} {label} {crowd} {reach} {q} {steps} {heads} {rest} {at} {before} {plan} w e =
+    subst (λ (x : ℕ). Sent levels may label crowd reach q steps heads x at before plan) e w
 
 -- ---- the promise of `fill`
 
-module _ {levels : ℕ} {class may label : List ℕ} {q steps people : ℕ} where
+module _ {levels : ℕ} {may label crowd reach : List ℕ} {q steps people : ℕ} where
   -- no level left
   pub filled-last : {before after : List ℕ} → levels ≤ q → StaffedBy (mayIn may) (hasBit people) steps 0 before after
-      → Filled levels class may label q steps people before after
+      → Filled levels may label crowd reach q steps people before after
   filled-last {before} {after} d w =
       record {
         kept = w .kept;
         realizes = λ j part r.
-            realizes-last j (mayIn may) (labelIn label) q (omega (arith, part .classes .depth)) (hasBit steps) (hasBit people) (planIn after)
+            realizes-last j (mayIn may) (labelIn label) q (omega (arith, part .tables .depth)) (hasBit steps) (hasBit people) (planIn after)
             (λ s l h. let a = w .able s h (empty-lacks s) (r .0 s, r .1 .inside s l h, r .1 .authorised s l h) in
             (part .people .below (planIn after s) (a .0), a .0, a .1));
       }
 
   -- a group that no class hosts: the steps cannot go to the people, and nothing is written
-  pub filled-unhosted : {heads names : ℕ} {crowd plan : List ℕ} → q < levels → Crowds class q people 0 crowd names
-      → Mask (groups (hasBit steps) (labelIn label (suc q))) heads → Unhosted levels class may label q steps heads names crowd
-      → Filled levels class may label q steps people plan plan
-  filled-unhosted {heads} {names} {crowd} {plan} deep split mask w =
+  pub filled-unhosted : {heads : ℕ} {plan : List ℕ} → q < levels → steps < 4096 → Mask (groups (hasBit steps) (labelIn label (suc q))) heads
+      → Unhosted levels may label crowd reach q steps people heads → Filled levels may label crowd reach q steps people plan plan
+  filled-unhosted {heads} {plan} deep few mask w =
       record {
         kept = kept-none steps plan;
-        realizes = λ j part r. absurd (unhosted-not j levels class may label q steps people names crowd deep part split mask w r);
+        realizes = λ j part r. absurd (unhosted-not j levels may label crowd reach q steps people deep few part mask w r);
       }
 
-  module _ {heads names : ℕ} {crowd edges : List ℕ} (at : List ℕ) (deep : q < levels) (few : steps < 4096) (split : Crowds class q people 0 crowd names)
-      (mask : Mask (groups (hasBit steps) (labelIn label (suc q))) heads) (linked : Linked levels class may label q steps heads 0 names crowd edges)
+  module _ {heads : ℕ} {edges : List ℕ} (at : List ℕ) (deep : q < levels) (few : steps < 4096)
+      (mask : Mask (groups (hasBit steps) (labelIn label (suc q))) heads) (linked : Linked levels may label crowd reach q steps people heads 0 edges)
       {found : Bool} (cover : Covers (inMask heads) (suits edges) found (classAt at)) where
     -- no matching: the same
-    pub filled-none : {plan : List ℕ} → found ≡ false → Filled levels class may label q steps people plan plan
+    pub filled-none : {plan : List ℕ} → found ≡ false → Filled levels may label crowd reach q steps people plan plan
     filled-none {plan} e =
         record {
           kept = kept-none steps plan;
           realizes = λ j part r.
-              absurd (covers-not j levels class may label q steps people heads names crowd edges deep few part split mask linked cover e r);
+              absurd (covers-not j levels may label crowd reach q steps people heads edges deep few part mask linked cover e r);
         }
 
     -- a matching, and each group sent to its class
-    pub filled-sent : {before after : List ℕ} → found ≡ true → Sent levels class may label q steps heads 0 at crowd before after
-        → Filled levels class may label q steps people before after
+    pub filled-sent : {before after : List ℕ} → found ≡ true → Sent levels may label crowd reach q steps heads 0 at before after
+        → Filled levels may label crowd reach q steps people before after
     filled-sent {before} {after} e sent = record { kept = sent .kept; realizes = realizes }
       where
         c : ℕ → ℕ
         c = labelIn label (suc q)
 
-        realizes : (j : Job) → Part j levels class label q (hasBit steps) (hasBit people)
+        realizes : (j : Job) → Part j levels may label crowd reach q (hasBit steps) (hasBit people)
             → Realized j (mayIn may) (labelIn label) q (hasBit steps) (hasBit people)
             → Realizes j (mayIn may) (labelIn label) q (hasBit steps) (hasBit people) (planIn after)
         realizes j part r =
-            realizes-glue j (mayIn may) (labelIn label) q down (hasBit steps) (hasBit people) f (part .classes .refining) (part .steps .consistent)
+            realizes-glue j (mayIn may) (labelIn label) q down (hasBit steps) (hasBit people) f (part .tables .refining) (part .steps .consistent)
             (part .steps .labelled (suc q) (omega arith) down)
             (matching-differ j (suc q) (j .steps) _ (Hosts j (mayIn may) (labelIn label) q (hasBit steps) (hasBit people)) f (λ g v l i x. x .leads) m)
             (planIn after) sends
           where
             down : q < j .levels
-            down = depth j levels class label q steps people crowd names deep part split
+            down = depth j levels may label crowd reach q steps people deep part
 
             f : ℕ → ℕ
             f g = getD at g 0
 
             m : Matching (j .steps) (groups (hasBit steps) c) (Hosts j (mayIn may) (labelIn label) q (hasBit steps) (hasBit people)) f
-            m = assignment-matching j levels class may label q steps people heads names crowd edges deep few part split mask linked f
+            m = assignment-matching j levels may label crowd reach q steps people heads edges deep few part mask linked f
                 (assignment-at heads edges at (cover .sound e))
 
             sends : (g : ℕ) → g < j .steps → groups (hasBit steps) c g ≡ true
@@ -172,11 +171,11 @@ module _ {levels : ℕ} {class may label : List ℕ} {q steps people : ℕ} wher
                 let x = m .along g l i in
                 let s = sent .done g (mask-has mask g i) (empty-lacks g) in
                 let w = s .realizes j
-                (part-next j levels class label q steps people crowd names deep part split g (s .group) (f g) (s .mask) (omega (arith, x .person, part .classes .few)))
-                (realized-masks j levels class label q steps people crowd names deep part split (mayIn may) g (s .group) (f g) (s .mask) (x .person) (x .leads) (x .realized))
+                (part-next j levels may label crowd reach q steps people deep part (f g) (x .person) (x .leads) (x .inside) g (s .group) (s .mask))
+                (realized-masks j levels may label crowd reach q steps people deep part (f g) (x .person) (x .leads) (x .inside) g (s .group) (s .mask) (x .realized))
                 in
-                realizes-mono j (mayIn may) (labelIn label) (labelIn label) (suc q) (hasBit (s .group)) _ (hasBit (getD crowd (f g) 0)) _ (planIn after)
+                realizes-mono j (mayIn may) (labelIn label) (labelIn label) (suc q) (hasBit (s .group)) _ (hasBit (getD crowd (q * 64 + f g) 0)) _ (planIn after)
                 (λ t b h. mask-has (s .mask) t h)
-                (λ p b h. crowd-fibre j levels class label q steps people crowd names deep part split (f g) (x .person) (x .leads) p h)
+                (λ p b h. crowd-fibre j levels may label crowd reach q steps people deep part (f g) (x .person) (x .leads) (x .inside) p h)
                 (λ a t b d k h. refl)
-                (subst (λ (y : ℕ). Realizes j (mayIn may) (labelIn label) y (hasBit (s .group)) (hasBit (getD crowd (f g) 0)) (planIn after)) (add-one q) w)
+                (subst (λ (y : ℕ). Realizes j (mayIn may) (labelIn label) y (hasBit (s .group)) (hasBit (getD crowd (q * 64 + f g) 0)) (planIn after)) (add-one q) w)

@@ -1,6 +1,6 @@
 pub mod Masks
 pub mod Staff
-pub mod Crowds
+pub mod Reach
 pub mod Rows
 pub mod Descend
 pub mod Decide

@@ -2,10 +2,10 @@
 use mathlib.Core.Bool.{Bool, true, false, _&&_}
 use mathlib.Core.Path.{_≡_, refl, sym, subst, ap, _∙_}
 use mathlib.Core.List.{List}
-use Prim.Native.Nat.{ℕ, zero, suc, _+_, _*_, _-_, _^_, _<_}
+use Prim.Native.Nat.{ℕ, suc, _+_, _*_, _-_, _^_, _<_}
 use native.Mathlib.Omega.{arith}
 use lib.Dec.{eqb}
-use lib.ListN.{getD, replicate, length-replicate}
+use lib.ListN.{getD}
 use borrow.Author.Tests.{eqb-true, eqb-false}
 use Rattle.bits.specs.Word.{hasBit}
 use Rattle.bits.specs.Set.{Added, Removed, Lowest}
@@ -14,7 +14,7 @@ use Rattle.bits.proofs.Counting.{and-of}
 use Rattle.bits.proofs.SetLaws.{empty-lacks, zero-empty, has-below, added-has, added-other, removed-other, removed-was, removed-differs, removed-less}
 use Rattle.pattern.specs.Tables.{labelIn}
 use Rattle.pattern.specs.Realize.{fibre, groups}
-use Rattle.realize.specs.Masks.{Mask, Sifted, Blank, Says}
+use Rattle.realize.specs.Masks.{Mask, Sifted, Says}
 
 -- ---- masks
 
@@ -104,13 +104,3 @@ pub groups-sifted : (label : List ℕ) (q : ℕ) {steps rest r : ℕ} → Sifted
 unfolding groups
 groups-sifted label q {steps} w e = sifted-all _ w e
     (λ s. ap (λ (x : ℕ). hasBit steps s && eqb (getD label x 0) s) (sym (level-at q 12 s)))
-
--- ---- arrays
-
-pub blank-zeros : (n : ℕ) → Blank n (replicate {A = ℕ} n 0)
-blank-zeros n = record { sized = length-replicate n 0; zero = zeros n }
-  where
-    zeros : (n i : ℕ) → getD (replicate {A = ℕ} n 0) i 0 ≡ 0
-    zeros zero i = refl
-    zeros (suc n) zero = refl
-    zeros (suc n) (suc i) = zeros n i

@@ -15,9 +15,10 @@ use Rattle.pattern.specs.Tables.{mayIn, labelIn, planIn}
 use Rattle.pattern.specs.Realize.{Realized}
 use Rattle.pattern.proofs.Realize.{realizes-mono, realized-mono}
 use Rattle.realize.specs.Masks.{Mask}
-use Rattle.realize.specs.Parts.{Part, Known}
+use Rattle.realize.specs.Parts.{Tabled, Part, Known}
 use Rattle.realize.specs.Decision.{Decided, Realizable}
 use Rattle.realize.specs.Filling.{Filled, Realizing}
+use Rattle.realize.proofs.Reach.{tables-of}
 use Rattle.realize.proofs.Masks.{says-of, says-true, says-false, mask-has, mask-in}
 
 -- the shift of a machine word
@@ -31,11 +32,12 @@ pub everybody-mask : (people word : ℕ) → word ≡ 2 ^ people - 1 → Mask (�
 everybody-mask people word e = record { each = λ p. ap (λ (x : ℕ). hasBit x p) e ∙ full-bit people p }
 
 -- the part that level 0 has
-known-part : {people levels : ℕ} {class label : List ℕ} {placed all : ℕ} → Mask (λ p. ltb p people) all
-    → (j : Job) → Known j people levels class label placed → Part j levels class label 0 (hasBit placed) (hasBit all)
-known-part {people} mask j k =
+known-part : {people levels : ℕ} {class may label crowd reach : List ℕ} {placed all : ℕ} → Mask (λ p. ltb p people) all
+    → Tabled people levels class may crowd reach → (j : Job) → Known j people levels class label placed
+    → Part j levels may label crowd reach 0 (hasBit placed) (hasBit all)
+known-part {people} mask tabled j k =
     record {
-      classes = k .classes;
+      tables = tables-of tabled j (k .crew) (k .classes);
       steps = record {
         below = k .below;
         consistent = k .pattern .consistent;
@@ -55,22 +57,23 @@ everybody-of {people} {levels} {class} {label} {placed} {all} may mask j k =
     realized-mono j may (labelIn label) (labelIn label) 0 _ _ (λ p. true) (hasBit all) (λ s l h. h)
     (λ p l h. mask-has mask p (lt-ltb p people (omega (arith, k .crew)))) (λ r s a b l h. refl)
 
-module _ {people levels : ℕ} {class may label : List ℕ} {placed all : ℕ} (mask : Mask (λ p. ltb p people) all) where
-  pub decided-realizable : {r : Bool} → Decided levels class may label 0 placed all r → Realizable people levels class may label placed r
+module _ {people levels : ℕ} {class may label crowd reach : List ℕ} {placed all : ℕ} (mask : Mask (λ p. ltb p people) all)
+    (tabled : Tabled people levels class may crowd reach) where
+  pub decided-realizable : {r : Bool} → Decided levels may label crowd reach 0 placed all r → Realizable people levels class may label placed r
   decided-realizable {r} d = record {
     says = λ j k.
         says-of r
         (λ e. realized-mono j (mayIn may) (labelIn label) (labelIn label) 0 _ _ (hasBit all) (λ p. true) (λ s l h. h) (λ p l h. refl) (λ r s a b l h. refl)
-        (says-true r (d .says j (known-part mask j k)) e))
-        (λ e w. says-false r (d .says j (known-part mask j k)) e (everybody-of (mayIn may) mask j k w));
+        (says-true r (d .says j (known-part mask tabled j k)) e))
+        (λ e w. says-false r (d .says j (known-part mask tabled j k)) e (everybody-of (mayIn may) mask j k w));
   }
 
-  pub filled-realizing : {before after : List ℕ} → Filled levels class may label 0 placed all before after
+  pub filled-realizing : {before after : List ℕ} → Filled levels may label crowd reach 0 placed all before after
       → Realizing people levels class may label placed before after
   filled-realizing {before} {after} f =
       record {
         kept = f .kept;
         realizes = λ j k w.
             realizes-mono j (mayIn may) (labelIn label) (labelIn label) 0 _ _ (hasBit all) (λ p. true) (planIn after) (λ s l h. h) (λ p l h. refl)
-            (λ r s a b l h. refl) (f .realizes j (known-part mask j k) (everybody-of (mayIn may) mask j k w));
+            (λ r s a b l h. refl) (f .realizes j (known-part mask tabled j k) (everybody-of (mayIn may) mask j k w));
       }

@@ -2,7 +2,7 @@
 use mathlib.Core.Bool.{Bool, true, false}
 use mathlib.Core.List.{List}
 use mathlib.Core.Path.{_≡_}
-use Prim.Native.Nat.{ℕ, suc, _+_}
+use Prim.Native.Nat.{ℕ, suc, _+_, _*_}
 use lib.ListN.{length, getD}
 use Rattle.bits.specs.Word.{hasBit}
 use Rattle.workflow.specs.Problem.{Job, May}
@@ -21,39 +21,53 @@ pub record Staffing (may : May) (C : ℕ → Bool) (steps rest : ℕ) : Type 0 w
   pub able : (s : ℕ) → hasBit steps s ≡ true → hasBit rest s ≡ false → Able may C s
 
 -- the promise of `decide`: the steps can go to the people, or not
-pub record Decided (levels : ℕ) (class may label : List ℕ) (q steps people : ℕ) (r : Bool) : Type 0 where
-  pub says : (j : Job) → Part j levels class label q (hasBit steps) (hasBit people)
+pub record Decided (levels : ℕ) (may label crowd reach : List ℕ) (q steps people : ℕ) (r : Bool) : Type 0 where
+  pub says : (j : Job) → Part j levels may label crowd reach q (hasBit steps) (hasBit people)
       → Says r (Realized j (mayIn may) (labelIn label) q (hasBit steps) (hasBit people))
 
--- the promise of `hosts`: r has the classes of `names`, but for `rest`, to whose people the steps of the group can go
-pub record Hosting (levels : ℕ) (class may label : List ℕ) (q group names rest : ℕ) (crowd : List ℕ) (r : ℕ) : Type 0 where
+-- the promise of `candidates`: r has those of `people` that name a class of level q + 1 with somebody for each step of the group, but for `rest`
+pub record Candidates (reach : List ℕ) (q group people rest r : ℕ) : Type 0 where
+  pub part : (s : ℕ) → hasBit rest s ≡ true → hasBit group s ≡ true
+  pub inside : (v : ℕ) → hasBit r v ≡ true → hasBit people v ≡ true
+  pub each : (v s : ℕ) → hasBit r v ≡ true → hasBit group s ≡ true → hasBit rest s ≡ false → hasBit (getD reach (q * 12 + s) 0) v ≡ true
+  pub all : (v : ℕ) → hasBit people v ≡ true → ((s : ℕ) → hasBit group s ≡ true → hasBit (getD reach (q * 12 + s) 0) v ≡ true) → hasBit r v ≡ true
+
+-- r has the classes of `names`, but for `rest`, to whose people the steps of the group can go
+pub record Hosting (levels : ℕ) (may label crowd reach : List ℕ) (q group names rest r : ℕ) : Type 0 where
   pub part : (v : ℕ) → hasBit rest v ≡ true → hasBit names v ≡ true
   pub only : (v : ℕ) → hasBit r v ≡ true → hasBit names v ≡ true
   pub left : (v : ℕ) → hasBit rest v ≡ true → hasBit r v ≡ false
-  pub done : (v : ℕ) → hasBit names v ≡ true → hasBit rest v ≡ false → Decided levels class may label (q + 1) group (getD crowd v 0) (hasBit r v)
+  pub done : (v : ℕ) → hasBit names v ≡ true → hasBit rest v ≡ false
+      → Decided levels may label crowd reach (q + 1) group (getD crowd (q * 64 + v) 0) (hasBit r v)
+
+-- the promise of `hosts`: r has the classes inside `people` to which the steps of the group can go
+pub record Hosted (levels : ℕ) (may label crowd reach : List ℕ) (q group people r : ℕ) : Type 0 where
+  pub names : ℕ
+  pub candidates : Candidates reach q group people 0 names
+  pub hosting : Hosting levels may label crowd reach q group names 0 r
 
 -- row has the classes that host group g of `steps`
-pub record Row (levels : ℕ) (class may label : List ℕ) (q steps names : ℕ) (crowd : List ℕ) (g row : ℕ) : Type 0 where
+pub record Row (levels : ℕ) (may label crowd reach : List ℕ) (q steps people g row : ℕ) : Type 0 where
   pub group : ℕ
   pub mask : Mask (fibre (hasBit steps) (labelIn label (suc q)) g) group
-  pub hosting : Hosting levels class may label q group names 0 crowd row
+  pub hosted : Hosted levels may label crowd reach q group people row
 
 -- each group of `heads`, the mask of the groups, but for `rest`, has its row
-pub record Linked (levels : ℕ) (class may label : List ℕ) (q steps heads rest names : ℕ) (crowd edges : List ℕ) : Type 0 where
+pub record Linked (levels : ℕ) (may label crowd reach : List ℕ) (q steps people heads rest : ℕ) (edges : List ℕ) : Type 0 where
   pub sized : length edges ≡ 12
   pub part : (g : ℕ) → hasBit rest g ≡ true → hasBit heads g ≡ true
-  pub done : (g : ℕ) → hasBit heads g ≡ true → hasBit rest g ≡ false → Row levels class may label q steps names crowd g (getD edges g 0)
+  pub done : (g : ℕ) → hasBit heads g ≡ true → hasBit rest g ≡ false → Row levels may label crowd reach q steps people g (getD edges g 0)
 
 -- some group of `heads` has no host
-pub record Unhosted (levels : ℕ) (class may label : List ℕ) (q steps heads names : ℕ) (crowd : List ℕ) : Type 0 where
+pub record Unhosted (levels : ℕ) (may label crowd reach : List ℕ) (q steps people heads : ℕ) : Type 0 where
   pub who : ℕ
   pub among : hasBit heads who ≡ true
-  pub row : Row levels class may label q steps names crowd who 0
+  pub row : Row levels may label crowd reach q steps people who 0
 
 -- the promise of `link`
-pub record Linking (levels : ℕ) (class may label : List ℕ) (q steps heads names : ℕ) (crowd edges : List ℕ) (r : Bool) : Type 0 where
-  pub linked : r ≡ true → Linked levels class may label q steps heads 0 names crowd edges
-  pub unhosted : r ≡ false → Unhosted levels class may label q steps heads names crowd
+pub record Linking (levels : ℕ) (may label crowd reach : List ℕ) (q steps people heads : ℕ) (edges : List ℕ) (r : Bool) : Type 0 where
+  pub linked : r ≡ true → Linked levels may label crowd reach q steps people heads 0 edges
+  pub unhosted : r ≡ false → Unhosted levels may label crowd reach q steps people heads
 
 -- the promise of `realizable`
 pub record Realizable (people levels : ℕ) (class may label : List ℕ) (placed : ℕ) (r : Bool) : Type 0 where

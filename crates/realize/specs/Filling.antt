@@ -2,7 +2,7 @@
 use mathlib.Core.Bool.{Bool, true, false}
 use mathlib.Core.List.{List}
 use mathlib.Core.Path.{_≡_}
-use Prim.Native.Nat.{ℕ, suc, _+_, _<_}
+use Prim.Native.Nat.{ℕ, suc, _+_, _*_, _<_}
 use lib.ListN.{length, getD}
 use Rattle.bits.specs.Word.{hasBit}
 use Rattle.workflow.specs.Problem.{Job, May}
@@ -25,25 +25,26 @@ pub record StaffedBy (may : May) (C : ℕ → Bool) (steps rest : ℕ) (before a
       → (C (planIn after s) ≡ true) × (may s (planIn after s) ≡ true)
 
 -- the promise of `fill`
-pub record Filled (levels : ℕ) (class may label : List ℕ) (q steps people : ℕ) (before after : List ℕ) : Type 0 where
+pub record Filled (levels : ℕ) (may label crowd reach : List ℕ) (q steps people : ℕ) (before after : List ℕ) : Type 0 where
   pub kept : Kept steps before after
-  pub realizes : (j : Job) → Part j levels class label q (hasBit steps) (hasBit people)
+  pub realizes : (j : Job) → Part j levels may label crowd reach q (hasBit steps) (hasBit people)
       → Realized j (mayIn may) (labelIn label) q (hasBit steps) (hasBit people)
       → Realizes j (mayIn may) (labelIn label) q (hasBit steps) (hasBit people) (planIn after)
 
 -- group g of `steps` goes to `people`, where it can
-pub record SentGroup (levels : ℕ) (class may label : List ℕ) (q steps g people : ℕ) (plan : List ℕ) : Type 0 where
+pub record SentGroup (levels : ℕ) (may label crowd reach : List ℕ) (q steps g people : ℕ) (plan : List ℕ) : Type 0 where
   pub group : ℕ
   pub mask : Mask (fibre (hasBit steps) (labelIn label (suc q)) g) group
-  pub realizes : (j : Job) → Part j levels class label (q + 1) (hasBit group) (hasBit people)
+  pub realizes : (j : Job) → Part j levels may label crowd reach (q + 1) (hasBit group) (hasBit people)
       → Realized j (mayIn may) (labelIn label) (q + 1) (hasBit group) (hasBit people)
       → Realizes j (mayIn may) (labelIn label) (q + 1) (hasBit group) (hasBit people) (planIn plan)
 
 -- the promise of `send`: each group of `heads`, but for `rest`, goes to the class that `at` has for it
-pub record Sent (levels : ℕ) (class may label : List ℕ) (q steps heads rest : ℕ) (at crowd before after : List ℕ) : Type 0 where
+pub record Sent (levels : ℕ) (may label crowd reach : List ℕ) (q steps heads rest : ℕ) (at before after : List ℕ) : Type 0 where
   pub kept : Kept steps before after
   pub part : (g : ℕ) → hasBit rest g ≡ true → hasBit heads g ≡ true
-  pub done : (g : ℕ) → hasBit heads g ≡ true → hasBit rest g ≡ false → SentGroup levels class may label q steps g (getD crowd (getD at g 0) 0) after
+  pub done : (g : ℕ) → hasBit heads g ≡ true → hasBit rest g ≡ false
+      → SentGroup levels may label crowd reach q steps g (getD crowd (q * 64 + getD at g 0) 0) after
 
 -- each group of the mask has a class
 pub record Settled (heads : ℕ) (at : List ℕ) : Type 0 where

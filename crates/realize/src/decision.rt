@@ -1,6 +1,5 @@
 // Whether a set of steps can go to a set of people: groups of the next level are matched with
 // classes of that level, a pair fitting when the same is so for them. Levels left fall.
-use crate::parts::crowds;
 use crate::parts::groups_of;
 use crate::parts::members;
 use bits::set;
@@ -13,7 +12,7 @@ ghost use Rattle.bits.specs.Word.{hasBit};
 ghost use Rattle.pattern.specs.Tables.{mayIn};
 ghost use Rattle.realize.specs.Masks.{Says};
 ghost use Rattle.realize.specs.Parts.{Sized};
-ghost use Rattle.realize.specs.Decision.{Staffing, Decided, Hosting, Linking};
+ghost use Rattle.realize.specs.Decision.{Staffing, Decided, Candidates, Hosted, Linking};
 
 // Whether each step of `steps` has somebody in `people`.
 fn staffed(may: &[u64; 12], steps: u16, people: u64) -> bool
@@ -31,26 +30,59 @@ fn staffed(may: &[u64; 12], steps: u16, people: u64) -> bool
     true
 }
 
-// Those of the classes `names` of level `q` + 1 that can host the steps of a group.
+// Those of `people` that name a class of level `q` + 1 with somebody for each step of a group.
+fn candidates(reach: &[u64; 36], q: usize, group: u16, people: u64) -> u64
+    requires { ⌜ (length (now reach) ≡ 36) × (q < 3) × (group < 4096) ⌝ }
+    ensures { λ r. ⌜ Candidates (now (reach .entry)) q group people 0 r ⌝ }
+{
+    let mut found = people;
+    let mut rest = group;
+    while rest != 0 {
+        let s = small::lowest(rest);
+        rest = small::without(rest, s);
+        found = found & reach[q * 12 + s];
+    }
+    found
+}
+
+// The classes of level `q` + 1 inside `people` that can host the steps of group `g`. Where each step
+// has somebody, one step asks no more, nor does the last level.
 fn hosts(
     levels: usize,
-    class: &[u8; 192],
     may: &[u64; 12],
     label: &[u8; 36],
+    crowd: &[u64; 192],
+    reach: &[u64; 36],
     q: usize,
+    g: usize,
     group: u16,
-    names: u64,
-    crowd: &[u64; 64],
+    people: u64,
 ) -> u64
-    requires { ⌜ Sized levels (now class) (now may) (now label) group × (q < levels) × (length (now crowd) ≡ 64) ⌝ }
-    ensures { λ r. ⌜ Hosting levels (now (class .entry)) (now (may .entry)) (now (label .entry)) q group names 0 (now (crowd .entry)) r ⌝ }
+    requires { ⌜ Sized levels (now may) (now label) (now crowd) (now reach) group × (q < levels) × (g < 16) ⌝ }
+    ensures { λ r. ⌜ Hosted levels (now (may .entry)) (now (label .entry)) (now (crowd .entry)) (now (reach .entry)) q group people r ⌝ }
 {
+    let row = candidates(reach, q, group, people);
+    if levels <= q + 1 {
+        return row;
+    }
+    if small::without(group, g) == 0 {
+        return row;
+    }
     let mut found: u64 = 0;
-    let mut rest = names;
+    let mut rest = row;
     while rest != 0 {
         let v = set::lowest(rest);
         rest = set::without(rest, v);
-        if !decide(levels, class, may, label, q + 1, group, crowd[v]) {
+        if !decide(
+            levels,
+            may,
+            label,
+            crowd,
+            reach,
+            q + 1,
+            group,
+            crowd[q * 64 + v],
+        ) {
             continue;
         }
         found = set::with(found, v);
@@ -62,25 +94,25 @@ fn hosts(
 // some group has none.
 pub fn link(
     levels: usize,
-    class: &[u8; 192],
     may: &[u64; 12],
     label: &[u8; 36],
+    crowd: &[u64; 192],
+    reach: &[u64; 36],
     q: usize,
     steps: u16,
+    people: u64,
     heads: u16,
-    names: u64,
-    crowd: &[u64; 64],
     edges: &mut [u64; 12],
 ) -> bool
-    requires { ⌜ Sized levels (now class) (now may) (now label) steps × (q < levels) × (length (now crowd) ≡ 64) × (length (now edges) ≡ 12) × (heads < 4096) ⌝ }
-    ensures { λ r. ⌜ Linking levels (now (class .entry)) (now (may .entry)) (now (label .entry)) q steps heads names (now (crowd .entry)) (now (edges .exit)) r ⌝ }
+    requires { ⌜ Sized levels (now may) (now label) (now crowd) (now reach) steps × (q < levels) × (length (now edges) ≡ 12) × (heads < 4096) ⌝ }
+    ensures { λ r. ⌜ Linking levels (now (may .entry)) (now (label .entry)) (now (crowd .entry)) (now (reach .entry)) q steps people heads (now (edges .exit)) r ⌝ }
 {
     let mut rest = heads;
     while rest != 0 {
         let g = small::lowest(rest);
         rest = small::without(rest, g);
         let group = members(label, q, g as u8, steps);
-        let row = hosts(levels, class, may, label, q, group, names, crowd);
+        let row = hosts(levels, may, label, crowd, reach, q, g, group, people);
         if row == 0 {
             return false;
         }
@@ -92,36 +124,32 @@ pub fn link(
 // Whether the steps can go to the people, with the labels of the levels below `q`.
 pub fn decide(
     levels: usize,
-    class: &[u8; 192],
     may: &[u64; 12],
     label: &[u8; 36],
+    crowd: &[u64; 192],
+    reach: &[u64; 36],
     q: usize,
     steps: u16,
     people: u64,
 ) -> bool
-    requires { ⌜ Sized levels (now class) (now may) (now label) steps ⌝ }
-    ensures { λ r. ⌜ Decided levels (now (class .entry)) (now (may .entry)) (now (label .entry)) q steps people r ⌝ }
+    requires { ⌜ Sized levels (now may) (now label) (now crowd) (now reach) steps ⌝ }
+    ensures { λ r. ⌜ Decided levels (now (may .entry)) (now (label .entry)) (now (crowd .entry)) (now (reach .entry)) q steps people r ⌝ }
 {
-    if !staffed(may, steps, people) {
-        return false;
-    }
     if levels <= q {
-        return true;
+        return staffed(may, steps, people);
     }
     let heads = groups_of(label, q, steps);
-    let mut crowd = [0u64; 64];
-    let names = crowds(class, q, people, &mut crowd);
     let mut edges = [0u64; 12];
     if !link(
         levels,
-        class,
         may,
         label,
+        crowd,
+        reach,
         q,
         steps,
+        people,
         heads,
-        names,
-        &crowd,
         &mut edges,
     ) {
         return false;

@@ -1,5 +1,4 @@
-// The classes that a set of people splits into, and the groups of a set of steps.
-use bits::set;
+// All the people of a job, and the groups of a set of steps.
 use bits::small;
 ghost use mathlib.Core.Path.{_≡_};
 ghost use Prim.Native.Nat.{suc, _<_, _≤_};
@@ -8,8 +7,7 @@ ghost use lib.ListN.{length};
 ghost use Rattle.bits.specs.Word.{hasBit};
 ghost use Rattle.pattern.specs.Tables.{labelIn};
 ghost use Rattle.pattern.specs.Realize.{fibre, groups};
-ghost use Rattle.realize.specs.Masks.{Mask, Blank};
-ghost use Rattle.realize.specs.Parts.{Crowds};
+ghost use Rattle.realize.specs.Masks.{Mask};
 
 // All of so many people.
 pub fn everybody(people: usize) -> u64
@@ -20,24 +18,6 @@ pub fn everybody(people: usize) -> u64
         return 0xffff_ffff_ffff_ffff;
     }
     (1 << people) - 1
-}
-
-// Splits `people` into their classes of level `q` + 1, each at its name, and gives the names. A
-// class is named by a number below 64.
-pub fn crowds(class: &[u8; 192], q: usize, people: u64, crowd: &mut [u64; 64]) -> u64
-    requires { ⌜ (length (now class) ≡ 192) × (q < 3) × Blank 64 (now crowd) ⌝ }
-    ensures { λ r. ⌜ Crowds (now (class .entry)) q people 0 (now (crowd .exit)) r ⌝ }
-{
-    let mut names: u64 = 0;
-    let mut rest = people;
-    while rest != 0 {
-        let p = set::lowest(rest);
-        rest = set::without(rest, p);
-        let v = (class[q * 64 + p] % 64) as usize;
-        crowd[v] = set::with(crowd[v], p);
-        names = set::with(names, v);
-    }
-    names
 }
 
 // Those of `steps` that have the label `g` at level `q` + 1.

@@ -1,6 +1,5 @@
 // A plan for a set of steps that can go to a set of people, written along the matchings.
 use crate::decision::link;
-use crate::parts::crowds;
 use crate::parts::groups_of;
 use crate::parts::members;
 use bits::set;
@@ -34,18 +33,18 @@ fn staff(may: &[u64; 12], steps: u16, people: u64, plan: &mut [u8; 12])
 // Gives the steps of each group of level `q` + 1 people of the class that `at` has for it.
 fn send(
     levels: usize,
-    class: &[u8; 192],
     may: &[u64; 12],
     label: &[u8; 36],
+    crowd: &[u64; 192],
+    reach: &[u64; 36],
     q: usize,
     steps: u16,
     heads: u16,
     at: &[u8; 12],
-    crowd: &[u64; 64],
     plan: &mut [u8; 12],
 )
-    requires { ⌜ Sized levels (now class) (now may) (now label) steps × (q < levels) × (length (now crowd) ≡ 64) × (length (now plan) ≡ 12) × (heads < 4096) × Settled heads (now at) ⌝ }
-    ensures { λ r. ⌜ Sent levels (now (class .entry)) (now (may .entry)) (now (label .entry)) q steps heads 0 (now (at .entry)) (now (crowd .entry)) (now (plan .entry)) (now (plan .exit)) ⌝ }
+    requires { ⌜ Sized levels (now may) (now label) (now crowd) (now reach) steps × (q < levels) × (length (now plan) ≡ 12) × (heads < 4096) × Settled heads (now at) ⌝ }
+    ensures { λ r. ⌜ Sent levels (now (may .entry)) (now (label .entry)) (now (crowd .entry)) (now (reach .entry)) q steps heads 0 (now (at .entry)) (now (plan .entry)) (now (plan .exit)) ⌝ }
 {
     let mut rest = heads;
     while rest != 0 {
@@ -53,42 +52,51 @@ fn send(
         rest = small::without(rest, g);
         let group = members(label, q, g as u8, steps);
         let v = at[g] as usize;
-        fill(levels, class, may, label, q + 1, group, crowd[v], plan);
+        fill(
+            levels,
+            may,
+            label,
+            crowd,
+            reach,
+            q + 1,
+            group,
+            crowd[q * 64 + v],
+            plan,
+        );
     }
 }
 
 // Gives the steps people, where they can go to them with the labels of the levels below `q`.
 pub fn fill(
     levels: usize,
-    class: &[u8; 192],
     may: &[u64; 12],
     label: &[u8; 36],
+    crowd: &[u64; 192],
+    reach: &[u64; 36],
     q: usize,
     steps: u16,
     people: u64,
     plan: &mut [u8; 12],
 )
-    requires { ⌜ Sized levels (now class) (now may) (now label) steps × (length (now plan) ≡ 12) ⌝ }
-    ensures { λ r. ⌜ Filled levels (now (class .entry)) (now (may .entry)) (now (label .entry)) q steps people (now (plan .entry)) (now (plan .exit)) ⌝ }
+    requires { ⌜ Sized levels (now may) (now label) (now crowd) (now reach) steps × (length (now plan) ≡ 12) ⌝ }
+    ensures { λ r. ⌜ Filled levels (now (may .entry)) (now (label .entry)) (now (crowd .entry)) (now (reach .entry)) q steps people (now (plan .entry)) (now (plan .exit)) ⌝ }
 {
     if levels <= q {
         staff(may, steps, people, plan);
         return;
     }
     let heads = groups_of(label, q, steps);
-    let mut crowd = [0u64; 64];
-    let names = crowds(class, q, people, &mut crowd);
     let mut edges = [0u64; 12];
     if !link(
         levels,
-        class,
         may,
         label,
+        crowd,
+        reach,
         q,
         steps,
+        people,
         heads,
-        names,
-        &crowd,
         &mut edges,
     ) {
         return;
@@ -98,16 +106,5 @@ pub fn fill(
         return;
     }
     let at = cover.at;
-    send(
-        levels,
-        class,
-        may,
-        label,
-        q,
-        steps,
-        heads,
-        &at,
-        &crowd,
-        plan,
-    );
+    send(levels, may, label, crowd, reach, q, steps, heads, &at, plan);
 }

@@ -10,3 +10,4 @@ pub mod Turns
 pub mod Sizes
 pub mod Posed
 pub mod Written
+pub mod Varying

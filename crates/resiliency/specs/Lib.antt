@@ -3,3 +3,4 @@ pub mod Count
 pub mod Spare
 pub mod Known
 pub mod Left
+pub mod Varied

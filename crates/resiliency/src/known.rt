@@ -1,11 +1,12 @@
 // Searches for a plan without some people, and the plans that they find. Up to 64 are kept: each has its
 // people as a mask, and each person's word says which of them do without that person.
+use super::varied::recent;
+use super::varied::varied;
 use bits::set::has;
 use bits::set::lowest;
 use bits::set::with;
 use bits::set::without;
 use levels::Size;
-use search::exists::exists;
 ghost use mathlib.Core.Path.{_≡_};
 ghost use Prim.Native.Nat.{ℕ, _≤_, _<_};
 ghost use lib.ListN.{length, getD};
@@ -138,7 +139,8 @@ pub fn searched(
     let slot = next_slot(asked);
     let rest = remaining(may, away);
     let mut plan = [0u8; 12];
-    if !exists(
+    let used = recent(slot, plans);
+    if !varied(
         size,
         class,
         kind,
@@ -146,6 +148,7 @@ pub fn searched(
         limit,
         scope,
         &rest,
+        used,
         weight,
         &mut plan,
     ) {

@@ -3,6 +3,7 @@ pub mod call;
 pub mod count;
 pub mod job;
 pub mod known;
+pub mod varied;
 pub mod walk;
 
 // No valid plan with everyone present; as many absences as the cap; or the group, in crew order, whose

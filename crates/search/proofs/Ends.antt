@@ -22,7 +22,7 @@ use Rattle.pattern.proofs.Patterns.{nothing-pattern}
 use Rattle.pattern.proofs.Search.{exists-nothing, exists-possible, completed-placed, completed-other, completed-exists}
 use Rattle.eligible.specs.Rules.{Says, AllPossible}
 use Rattle.eligible.proofs.Tests.{says-true, says-false}
-use Rattle.realize.specs.Parts.{Sized}
+use Rattle.realize.specs.Parts.{Sized, Tabled}
 use Rattle.levels.specs.Given.{Given}
 use Rattle.search.specs.Existence.{Named, AllStaffed, Spread, Existence}
 use Rattle.search.specs.State.{Patterned, Reached, Ended, Outcome}
@@ -151,9 +151,10 @@ module _ {steps people levels rules : ℕ} {class kind level limit scope : List 
       → not r ≡ false → Reached (jobIn steps people levels class rules kind level limit scope) (mayIn may) rest 0 last
   finished r o f = ended-reached (o .won (not-false r f))
 
-  pub finished-sized : {rest : ℕ} {label last : List ℕ} (r : Bool) → length may ≡ 12
-      → Outcome (jobIn steps people levels class rules kind level limit scope) (mayIn may) 0 rest label last r → not r ≡ false → Sized levels class may last rest
-  finished-sized {rest} {label} {last} r e o f = sized given may rest last e (finished r o f .patterned)
+  pub finished-sized : {rest : ℕ} {label last crowd reach : List ℕ} (r : Bool) → length may ≡ 12
+      → Outcome (jobIn steps people levels class rules kind level limit scope) (mayIn may) 0 rest label last r → not r ≡ false
+      → Tabled people levels class may crowd reach → Sized levels may last crowd reach rest
+  finished-sized {rest} {label} {last} r e o f w = sized given may rest last e (finished r o f .patterned) w
 
   pub existence-won : {rest : ℕ} {label last plan plan′ : List ℕ} (first : List ℕ) (a r : Bool) → Says a (AllStaffed steps people may) → not a ≡ false
       → Outcome (jobIn steps people levels class rules kind level limit scope) (mayIn may) 0 rest label last r → not r ≡ false → Spread steps may plan

@@ -1,60 +1,51 @@
--- Two steps of one group share a class, so the classes of their people meet. Assumes nothing.
+-- Two steps of one group share a class, so the classes that they can reach meet. Assumes nothing.
 use mathlib.Core.Bool.{Bool, true, false, not}
 use mathlib.Core.List.{List}
 use mathlib.Core.Path.{_≡_, refl, sym, subst, _∙_}
-use Prim.Native.Nat.{ℕ, _%_, _≤_}
+use Prim.Native.Nat.{ℕ, _+_, _*_, _-_, _/_, _%_, _≤_, _<_}
 use native.Mathlib.Omega.{arith}
 use lib.Bits.{bitAnd}
 use lib.Dec.{eqb}
-use lib.ListN.{getD}
-use borrow.Author.Tests.{eqb-true, eqb-false, not-true, not-false}
+use borrow.Author.Tests.{eqb-true, not-true, not-false}
 use Rattle.bits.specs.Word.{hasBit}
-use Rattle.bits.specs.Set.{Added, Removed}
-use Rattle.bits.proofs.Below.{by-cases, true-false}
+use Rattle.bits.proofs.Below.{true-false}
 use Rattle.bits.proofs.Counting.{and-of}
-use Rattle.bits.proofs.SetLaws.{and-bit, empty-lacks, zero-empty, added-has, added-keeps, removed-other}
+use Rattle.bits.proofs.SetLaws.{and-bit, zero-empty}
 use Rattle.pattern.specs.Tables.{classIn, mayIn, labelIn, jobIn}
 use Rattle.pattern.proofs.Place.{with-own, with-old, grown-joined, grown-placed}
+use Rattle.realize.specs.Parts.{nameIn, Tabled}
 use Rattle.levels.specs.Given.{Given}
-use Rattle.search.specs.Meet.{Reaches, Meets}
+use Rattle.search.specs.Meet.{reachIn, Meets}
 use Rattle.search.specs.State.{partner, depth, Growable, Grew}
 
-pub reaches-none : (class : List ℕ) (d mask : ℕ) → Reaches class d mask mask 0
-reaches-none class d mask = record { each = λ p h k. true-false h k }
-
-pub reaches-more : (class : List ℕ) (d mask left left′ r r′ p : ℕ) → Reaches class d mask left r → Removed left p left′ → Added r (classIn class d p % 64) r′
-    → Reaches class d mask left′ r′
-reaches-more class d mask left left′ r r′ p w gone more =
-    record {
-      each = λ u h k.
-          by-cases (eqb u p)
-          (λ x. subst (λ (v : ℕ). hasBit r′ (classIn class d v % 64) ≡ true) (sym (eqb-true u p x)) (added-has more))
-          (λ x. added-keeps more (classIn class d u % 64) (w .each u h (sym (removed-other gone u (eqb-false u p x)) ∙ k)));
-    }
-
-pub reaches-all : (class : List ℕ) (d mask left r : ℕ) → Reaches class d mask left r → left ≡ 0 → Reaches class d mask 0 r
-reaches-all class d mask left r w e = record { each = λ p h k. w .each p h (zero-empty left e p) }
-
-module _ (class : List ℕ) (d a b : ℕ) where
-  pub meets-nothing : Meets class d a b true
+module _ (reach : List ℕ) (d s t : ℕ) where
+  pub meets-nothing : Meets reach d s t true
   meets-nothing = record { apart = λ e. true-false refl e; some = λ e. true-false refl e }
 
-  pub meets-names : (x y : ℕ) → (d ≡ 0 → ⊥) → Reaches class d a 0 x → Reaches class d b 0 y → Meets class d a b (not (eqb (bitAnd x y) 0))
-  meets-names x y n v w =
+  pub meets-reach : (d ≡ 0 → ⊥) → Meets reach d s t (not (eqb (bitAnd (reachIn reach d s) (reachIn reach d t)) 0))
+  meets-reach n =
       record {
-        apart = λ e p p′ h k same.
-            let z : bitAnd x y ≡ 0 = eqb-true (bitAnd x y) 0 (not-false (eqb (bitAnd x y) 0) e) in
+        apart = λ e v h k.
+            let z : bitAnd (reachIn reach d s) (reachIn reach d t) ≡ 0 = eqb-true _ 0 (not-false _ e) in
             true-false
-            (and-bit x y (classIn class d p % 64)
-            ∙ and-of (hasBit x (classIn class d p % 64)) _ (v .each p h (empty-lacks p))
-            (subst (λ (u : ℕ). hasBit y (u % 64) ≡ true) (sym same) (w .each p′ k (empty-lacks p′))))
-            (zero-empty (bitAnd x y) z (classIn class d p % 64));
+            (and-bit (reachIn reach d s) (reachIn reach d t) v ∙ and-of (hasBit (reachIn reach d s) v) (hasBit (reachIn reach d t) v) h k)
+            (zero-empty _ z v);
         some = λ e. omega arith;
       }
 
+-- a step reaches the class of each person permitted
+reach-own : {people levels : ℕ} {class may crowd reach : List ℕ} → Tabled people levels class may crowd reach → (d s p : ℕ) → 1 ≤ d → d ≤ levels → s < 12
+    → p < people → mayIn may s p ≡ true → hasBit (reachIn reach d s) (classIn class d p % 64) ≡ true
+reach-own {people} {levels} {class} {may} {crowd} {reach} w d s p a b l k m =
+    let x : ((d - 1) * 12 + s) / 12 ≡ d - 1 = omega arith in
+    let y : ((d - 1) * 12 + s) % 12 ≡ s = omega arith in
+    subst (λ (q : ℕ). hasBit (reachIn reach d s) (nameIn class q p) ≡ true) x
+    (w .reaches .has ((d - 1) * 12 + s) p (omega arith) k (subst (λ (u : ℕ). mayIn may u p ≡ true) (sym y) m))
+
 module _ {steps people levels rules : ℕ} {class kind level limit scope label : List ℕ} {placed next s w : ℕ}
-    (given : Given steps people levels rules class kind level limit scope) (g : Growable (jobIn steps people levels class rules kind level limit scope) placed next s w label) (may : List ℕ) where
-  pub grew-unmet : (r : Bool) → Meets class (depth w) (getD may s 0) (getD may (partner w) 0) r → not r ≡ true
+    (given : Given steps people levels rules class kind level limit scope) (g : Growable (jobIn steps people levels class rules kind level limit scope) placed next s w label)
+    (may crowd reach : List ℕ) (tabled : Tabled people levels class may crowd reach) where
+  pub grew-unmet : (r : Bool) → Meets reach (depth w) s (partner w) r → not r ≡ true
       → Grew (jobIn steps people levels class rules kind level limit scope) (mayIn may) placed next s w label label false
   grew-unmet r m f =
       record {
@@ -67,8 +58,14 @@ module _ {steps people levels rules : ℕ} {class kind level limit scope label :
             let n : 1 ≤ depth w = m .some (not-true r f) in
             let i = joined .among n in
             let l = g .patterned .inside (partner w) i in
-            m .apart (not-true r f) (x .plan s) (x .plan (partner w)) (x .valid .authorised s (g .below)) (x .valid .authorised (partner w) l)
-            (x .has .alike (depth w) n (omega (arith, g .way)) .back s (partner w) (g .below) l (with-own (hasBit placed) s) (with-old (hasBit placed) s (partner w) i)
+            let d : depth w ≤ levels = omega (arith, g .way) in
+            let same : classIn class (depth w) (x .plan s) ≡ classIn class (depth w) (x .plan (partner w)) =
+            x .has .alike (depth w) n (omega (arith, g .way)) .back s (partner w) (g .below) l (with-own (hasBit placed) s) (with-old (hasBit placed) s (partner w) i)
             (grown-joined (labelIn label) s (partner w) (depth w) (depth w) (omega arith)
-            ∙ sym (grown-placed steps levels (hasBit placed) (labelIn label) (g .patterned .pattern) s (g .below) (g .unplaced) (partner w) (depth w) (depth w) (partner w) i)));
+            ∙ sym (grown-placed steps levels (hasBit placed) (labelIn label) (g .patterned .pattern) s (g .below) (g .unplaced) (partner w) (depth w) (depth w) (partner w) i))
+            in
+            m .apart (not-true r f) (classIn class (depth w) (x .plan s) % 64)
+            (reach-own tabled (depth w) s (x .plan s) n d (omega (arith, g .below, given .few-steps)) (x .valid .within s (g .below)) (x .valid .authorised s (g .below)))
+            (subst (λ (c : ℕ). hasBit (reachIn reach (depth w) (partner w)) (c % 64) ≡ true) (sym same)
+            (reach-own tabled (depth w) (partner w) (x .plan (partner w)) n d (omega arith) (x .valid .within (partner w) l) (x .valid .authorised (partner w) l)));
       }

@@ -7,23 +7,26 @@ use native.Mathlib.Omega.{arith}
 use lib.ListN.{length, getD}
 use borrow.Author.Tests.{not-true, not-false}
 use Rattle.bits.specs.Word.{hasBit}
-use Rattle.bits.proofs.Below.{true-false}
-use Rattle.bits.proofs.SetLaws.{part-le, full-has}
-use Rattle.workflow.specs.Problem.{Job, May}
-use Rattle.pattern.specs.Pattern.{SamePattern}
+use Rattle.bits.proofs.Below.{by-cases, true-false}
+use Rattle.bits.proofs.Counting.{is-false}
+use Rattle.bits.proofs.SetLaws.{empty-lacks, part-le, full-has}
+use Rattle.workflow.specs.Problem.{Job, May, Rule, RuleOk}
+use Rattle.pattern.specs.Pattern.{Label, Pattern, SamePattern}
 use Rattle.pattern.specs.Place.{withStep, grown, Way}
+use Rattle.pattern.specs.Eligible.{groupCount, openCount, Possible}
 use Rattle.pattern.specs.Realize.{Realized}
 use Rattle.pattern.specs.Tables.{mayIn, labelIn, jobIn}
 use Rattle.pattern.proofs.Place.{with-cases, grown-placed, grown-pattern}
-use Rattle.pattern.proofs.Same.{pattern-same, exists-same}
+use Rattle.pattern.proofs.Same.{pattern-same, possible-same, exists-same}
+use Rattle.pattern.proofs.Counted.{open-count-outside, group-count-outside}
 use Rattle.pattern.proofs.Search.{exists-realized, exists-possible}
-use Rattle.eligible.specs.Rules.{Says, AllPossible, Ruled}
+use Rattle.eligible.specs.Rules.{Says, AllPossible, Ruled, Among, RuledAmong}
 use Rattle.eligible.proofs.Tests.{says-true, says-false}
-use Rattle.realize.specs.Parts.{Sized, Known}
+use Rattle.realize.specs.Parts.{Sized, Tabled, Known}
 use Rattle.realize.specs.Decision.{Realizable}
 use Rattle.levels.specs.Given.{Given}
 use Rattle.search.specs.Growth.{Placeable, Grows, Joins}
-use Rattle.search.specs.State.{Patterned, Passing, Kept, partner, depth, Growable, Grew}
+use Rattle.search.specs.State.{Patterned, Passing, Touched, Spared, Kept, partner, depth, Growable, Grew}
 
 module _ {steps people levels rules : ℕ} {class kind level limit scope : List ℕ}
     (given : Given steps people levels rules class kind level limit scope) (may : List ℕ) (placed : ℕ) (label : List ℕ) where
@@ -47,13 +50,26 @@ module _ {steps people levels rules : ℕ} {class kind level limit scope : List 
             };
       }
 
-  pub sized : length may ≡ 12 → Patterned (jobIn steps people levels class rules kind level limit scope) placed label → Sized levels class may label placed
-  sized masks p =
+  pub ruled-among : (among : ℕ) → Patterned (jobIn steps people levels class rules kind level limit scope) placed label
+      → Spared (jobIn steps people levels class rules kind level limit scope) among placed label → RuledAmong steps among kind level limit scope placed label
+  ruled-among among p w =
+      record {
+        kinds = given .kinds;
+        levels = given .rule-levels;
+        limits = given .limits;
+        scopes = given .scopes;
+        marked = λ i h. ruled p .marked i (w .below i h);
+      }
+
+  pub sized : {crowd reach : List ℕ} → length may ≡ 12 → Patterned (jobIn steps people levels class rules kind level limit scope) placed label
+      → Tabled people levels class may crowd reach → Sized levels may label crowd reach placed
+  sized masks p w =
       record {
         deep = given .few-levels;
-        classes = given .classes;
         masks = masks;
         labels = p .sized;
+        crowds = w .crowds .sized;
+        reaches = w .reaches .sized;
         below = let l : placed ≤ 4095 = part-le placed 4095 (λ s h. let b = p .inside s h in full-has 12 s (omega (arith, given .few-steps))) in omega arith;
       }
 
@@ -74,20 +90,28 @@ module _ {steps people levels rules : ℕ} {class kind level limit scope : List 
       }
 
   -- a rule cannot be met
-  pub passing-ruled-out : (r : Bool) → Says r (AllPossible steps rules kind level limit scope placed label) → not r ≡ true
+  pub passing-ruled-out : (among : ℕ) (r : Bool) → Spared (jobIn steps people levels class rules kind level limit scope) among placed label
+      → Says r (Among steps among 0 kind level limit scope placed label) → not r ≡ true
       → Passing (jobIn steps people levels class rules kind level limit scope) (mayIn may) placed label false
-  passing-ruled-out r says f =
-      let n = says-false r (AllPossible steps rules kind level limit scope placed label) says (not-true r f) in
+  passing-ruled-out among r w says f =
+      let n = says-false r (Among steps among 0 kind level limit scope placed label) says (not-true r f) in
       record {
         won = λ e. true-false refl (sym e);
-        lost = λ e x. n (exists-possible (jobIn steps people levels class rules kind level limit scope) (mayIn may) (hasBit placed) (labelIn label) (given .searchable) x);
+        lost = λ e x. n (record {
+          part = λ i h. true-false h (empty-lacks i);
+          possible = λ i h k. exists-possible (jobIn steps people levels class rules kind level limit scope) (mayIn may) (hasBit placed) (labelIn label) (given .searchable) x i (w .below i h);
+        });
       }
 
-  pub passing-decided : (e r : Bool) → Patterned (jobIn steps people levels class rules kind level limit scope) placed label
-      → Says e (AllPossible steps rules kind level limit scope placed label) → not e ≡ false → Realizable people levels class may label placed r
+  pub passing-decided : (among : ℕ) (e r : Bool) → Patterned (jobIn steps people levels class rules kind level limit scope) placed label
+      → Spared (jobIn steps people levels class rules kind level limit scope) among placed label
+      → Says e (Among steps among 0 kind level limit scope placed label) → not e ≡ false → Realizable people levels class may label placed r
       → Passing (jobIn steps people levels class rules kind level limit scope) (mayIn may) placed label r
-  passing-decided e r p possible f d =
-      let a = says-true e (AllPossible steps rules kind level limit scope placed label) possible (not-false e f) in
+  passing-decided among e r p w possible f d =
+      let m = says-true e (Among steps among 0 kind level limit scope placed label) possible (not-false e f) in
+      let a : AllPossible steps rules kind level limit scope placed label
+      = λ i l. by-cases (hasBit among i) (λ h. m .possible i h (empty-lacks i)) (λ h. w .possible i l h)
+      in
       let j = jobIn steps people levels class rules kind level limit scope in
       let says = d .says j (known p) in
       record {
@@ -97,13 +121,24 @@ module _ {steps people levels rules : ℕ} {class kind level limit scope : List 
             (exists-realized j (mayIn may) (hasBit placed) (labelIn label) x);
       }
 
+-- a rule outside whose scope a step is placed stays as it was
+possible-outside : (steps levels : ℕ) (placed : ℕ → Bool) (label : Label) → Pattern steps levels placed label → (s : ℕ) → s < steps → placed s ≡ false → (r : Rule)
+    → RuleOk steps levels r → (t d : ℕ) → Way steps levels placed t d → r .scope s ≡ false → Possible steps placed label r
+    → Possible steps (withStep placed s) (grown label s t d) r
+possible-outside steps levels placed label pattern s below unplaced r ok t d way o w =
+    let a : groupCount steps (withStep placed s) (grown label s t d) r ≡ groupCount steps placed label r
+    = group-count-outside steps levels placed label pattern s below unplaced r ok t d way o
+    in
+    let b : openCount steps (withStep placed s) r ≡ openCount steps placed r = open-count-outside steps levels placed label pattern s below unplaced r o in
+    record { most = omega (arith, w .most); least = omega (arith, w .least) }
+
 -- what is asked of the group that a way joins, and of the classes
 module _ {j : Job} {placed next s w : ℕ} {label : List ℕ} (g : Growable j placed next s w label) (few : j .levels ≤ 3) where
   pub joinable : (partner w < 12) × (depth w ≤ 3) × (length label ≡ 36)
   joinable = (omega arith, omega (arith, g .way), g .patterned .sized)
 
-  pub meetable : (class : List ℕ) → length class ≡ 192 → (depth w ≤ 3) × (length class ≡ 192)
-  meetable class e = (omega (arith, g .way), e)
+  pub meetable : (reach : List ℕ) → j .steps ≤ 12 → length reach ≡ 36 → (depth w ≤ 3) × (s < 12) × (partner w < 12) × (length reach ≡ 36)
+  meetable reach most e = (omega (arith, g .way), omega (arith, g .below), omega arith, e)
 
 module _ {j : Job} {placed next s w : ℕ} {label : List ℕ} (g : Growable j placed next s w label) (may : May) (few : j .steps ≤ 12) where
   -- there is no such group
@@ -147,6 +182,17 @@ module _ {j : Job} {placed next s w : ℕ} {label : List ℕ} (g : Growable j pl
             pattern = pattern-same (j .steps) (j .levels) _ _ _ _ same
                 (grown-pattern (j .steps) (j .levels) (hasBit placed) (labelIn label) (g .patterned .pattern) s (g .below) (g .unplaced) (partner w) (depth w) way);
             inside = inside;
+          }
+
+      -- a rule that does not name s stays as it was
+      pub grown-spared : {among : ℕ} → Touched j among s → ((i : ℕ) → i < j .rules → RuleOk (j .steps) (j .levels) (j .rule i)) → Spared j among next label′
+      grown-spared touched ok =
+          record {
+            below = touched .below;
+            possible = λ i l n.
+                possible-same (j .steps) (j .levels) _ _ _ _ same (j .rule i) (ok i l)
+                (possible-outside (j .steps) (j .levels) (hasBit placed) (labelIn label) (g .patterned .pattern) s (g .below) (g .unplaced) (j .rule i) (ok i l)
+                (partner w) (depth w) way (is-false _ (λ h. true-false (touched .all i l h) n)) (g .possible i l));
           }
 
       kept : Kept j placed label label′

@@ -6,21 +6,24 @@ use mathlib.Core.Path.{_≡_, refl, sym, subst, ap, ap₂, _∙_}
 use Prim.Native.Nat.{ℕ, _+_, _*_, _-_, _≤_, _<_}
 use native.Mathlib.Omega.{arith}
 use lib.Dec.{eqb, leb}
+use lib.ListN.{getD}
 use borrow.Author.Tests.{eqb-true, eqb-false, leb-true, leb-false}
 use Rattle.bits.specs.Word.{hasBit}
 use Rattle.bits.specs.Set.{Added, Removed}
 use Rattle.bits.proofs.Below.{by-cases, true-false}
 use Rattle.bits.proofs.SetLaws.{zero-empty, added-has, added-keeps, added-other, removed-other, removed-was, removed-differs}
-use Rattle.workflow.specs.Problem.{Job, May}
+use Rattle.workflow.specs.Problem.{Job, May, RuleOk}
 use Rattle.pattern.specs.Pattern.{Refining}
 use Rattle.pattern.specs.Place.{withStep, grown}
 use Rattle.pattern.specs.Search.{Exists}
-use Rattle.pattern.specs.Tables.{labelIn}
+use Rattle.pattern.specs.Tables.{labelIn, jobIn}
 use Rattle.pattern.proofs.Place.{with-cases, grown-old, grown-joined, grown-apart}
-use Rattle.pattern.proofs.Same.{pattern-same, exists-same}
+use Rattle.pattern.proofs.Same.{pattern-same, possible-same, exists-same}
 use Rattle.pattern.proofs.Search.{exists-grown}
+use Rattle.levels.specs.Given.{Given}
+use Rattle.narrow.specs.Domains.{Naming}
 use Rattle.search.specs.Growth.{Joins}
-use Rattle.search.specs.State.{Reached, Outcome, partner, depth, ByWay, Growable, Grew, Tried}
+use Rattle.search.specs.State.{Touched, Reached, Outcome, partner, depth, ByWay, Growable, Grew, Tried}
 
 -- no step is left
 pub outcome-end : {j : Job} {may : May} {placed rest : ℕ} {label : List ℕ} → Reached j may placed rest label → rest ≡ 0 → Outcome j may placed rest label label true
@@ -83,9 +86,12 @@ module _ {j : Job} {may : May} {placed rest next left s : ℕ} {label : List ℕ
       }
 
   module _ {w : ℕ} {now : List ℕ} (tried : Tried j may placed s w label now) (within : w ≤ j .levels * 12) where
-    pub turn-growable : Growable j placed next s w now
-    turn-growable =
+    pub turn-growable : ((i : ℕ) → i < j .rules → RuleOk (j .steps) (j .levels) (j .rule i)) → Growable j placed next s w now
+    turn-growable ok =
         record {
+          possible = λ i l.
+              possible-same (j .steps) (j .levels) (hasBit placed) (hasBit placed) (labelIn label) (labelIn now)
+              (record { sets = λ u k. refl; labels = λ q u a b k h. sym (tried .kept q u a b h) }) (j .rule i) (ok i l) (reached .passed .possible i l);
           patterned = record {
             sized = tried .sized;
             pattern = pattern-same (j .steps) (j .levels) (hasBit placed) (hasBit placed) (labelIn label) (labelIn now)
@@ -205,3 +211,9 @@ module _ {j : Job} {may : May} {placed rest next left s : ℕ} {label : List ℕ
                 (λ n k. grown-old (labelIn label) s t d q u n ∙ sym (grown-old (labelIn label) s (partner 0) (depth 0) q u n));
           })
           may x)
+
+-- the rules that name a step, by the table
+pub named-touched : {steps people levels rules : ℕ} {class kind level limit scope of : List ℕ} {s : ℕ}
+    → Given steps people levels rules class kind level limit scope → Naming rules scope of → s < 12
+    → Touched (jobIn steps people levels class rules kind level limit scope) (getD of s 0) s
+named-touched {s = s} g w l = record { below = λ i h. w .below i s l h; all = λ i k h. w .has i s k l h }

@@ -32,6 +32,16 @@ pub record Passing (j : Job) (may : May) (placed : ℕ) (label : List ℕ) (r : 
   pub won : r ≡ true → Passed j may placed label
   pub lost : r ≡ false → Exists j may (hasBit placed) (labelIn label) → ⊥
 
+-- the mask has the rules that name step s
+pub record Touched (j : Job) (among s : ℕ) : Type 0 where
+  pub below : (i : ℕ) → hasBit among i ≡ true → i < j .rules
+  pub all : (i : ℕ) → i < j .rules → j .rule i .scope s ≡ true → hasBit among i ≡ true
+
+-- the rules outside the mask can still be met
+pub record Spared (j : Job) (among placed : ℕ) (label : List ℕ) : Type 0 where
+  pub below : (i : ℕ) → hasBit among i ≡ true → i < j .rules
+  pub possible : (i : ℕ) → i < j .rules → hasBit among i ≡ false → Possible (j .steps) (hasBit placed) (labelIn label) (j .rule i)
+
 -- where the search stands
 pub record Reached (j : Job) (may : May) (placed rest : ℕ) (label : List ℕ) : Type 0 where
   pub patterned : Patterned j placed label
@@ -71,6 +81,7 @@ ByWay j may placed label s w = Exists j may (withStep (hasBit placed) s) (grown 
 -- s can be placed in way w, which gives the mask `next`
 pub record Growable (j : Job) (placed next s w : ℕ) (label : List ℕ) : Type 0 where
   pub patterned : Patterned j placed label
+  pub possible : (i : ℕ) → i < j .rules → Possible (j .steps) (hasBit placed) (labelIn label) (j .rule i)
   pub below : s < j .steps
   pub unplaced : hasBit placed s ≡ false
   pub added : Added placed s next

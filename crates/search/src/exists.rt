@@ -6,7 +6,10 @@ use backtrack::attempt;
 use bits::set::lowest;
 use eligible::eligible;
 use levels::Size;
+use narrow::mates::crowds;
+use narrow::mates::naming;
 use realize::realize;
+use realize::tables::reaches;
 ghost use mathlib.Core.Path.{_≡_};
 ghost use Prim.Native.Nat.{_≤_};
 ghost use lib.ListN.{length};
@@ -89,6 +92,9 @@ pub fn by_patterns(
         return false;
     }
     let rest = named(size.steps, size.rules, scope);
+    let crowd = crowds(size.people, size.levels, class);
+    let reach = reaches(size.people, size.levels, class, may);
+    let of = naming(size.steps, size.rules, scope);
     if !find(
         size,
         class,
@@ -97,6 +103,9 @@ pub fn by_patterns(
         limit,
         scope,
         may,
+        &crowd,
+        &reach,
+        &of,
         0,
         rest,
         &mut label,
@@ -105,7 +114,17 @@ pub fn by_patterns(
         return false;
     }
     spread(size.steps, may, plan);
-    realize(size.people, size.levels, class, may, &label, rest, plan);
+    realize(
+        size.people,
+        size.levels,
+        class,
+        may,
+        &label,
+        &crowd,
+        &reach,
+        rest,
+        plan,
+    );
     true
 }
 

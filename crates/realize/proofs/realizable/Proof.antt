@@ -8,10 +8,10 @@ everybody-requires : tie.Need-everybody-requires
 everybody-requires c κs = search needs
 
 decide-requires : tie.Need-decide-requires
-decide-requires c κs = search needs
+decide-requires c κs = c .before .pre .0
 
 returns : tie.Need-returns
-returns c = decided-realizable (c .before .everybody .ensures) (c .decide .ensures)
+returns c = decided-realizable (c .before .everybody .ensures) (c .before .before .pre .2) (c .decide .ensures)
 
 pub realizable-spec : {M : Type 1} → statement M
 realizable-spec = tie.close (tie.spec everybody-requires decide-requires returns)

@@ -8,10 +8,10 @@ everybody-requires : tie.Need-everybody-requires
 everybody-requires c κs = search needs
 
 fill-requires : tie.Need-fill-requires
-fill-requires c κs = search needs
+fill-requires c κs = (c .before .before .pre .0, c .before .before .pre .3)
 
 returns : tie.Need-returns
-returns c = filled-realizing (c .before .before .everybody .ensures) (c .fill .ensures)
+returns c = filled-realizing (c .before .before .everybody .ensures) (c .before .before .before .pre .2) (c .fill .ensures)
 
 pub realize-spec : {M : Type 1} → statement M
 realize-spec = tie.close (tie.spec everybody-requires fill-requires returns)

@@ -1,7 +1,7 @@
--- `narrow::mates::naming` meets its contract. Assumes nothing.
-use mathlib.Core.Path.{_≡_, refl}
+-- `narrow::mates::naming` meets its contract: the rules passed are with the steps that they name. Assumes nothing.
 use Prim.Native.Nat.{_≤_, _<_, _-_}
-use lib.ListN.{length, length-set}
+use Rattle.narrow.specs.Domains.{Naming}
+use Rattle.narrow.proofs.Names.{Giving, naming-none, giving-none, giving-next, naming-next, naming-all}
 use Rattle.narrow.proofs.Masks.{lowest-less, lowest-below}
 use native.Mathlib.Omega.{arith}
 use borrow.Author.Needs.{needs}
@@ -9,19 +9,19 @@ use Rattle.narrow.proofs.mates.naming.Statement.{statement}
 use Rattle.narrow.proofs.mates.naming.Tie as tie
 
 abbrev Inv-loop2 : tie.InvT-loop2
-Inv-loop2 steps rules scope of₀ i rest₀ of rest = (rest < 4096) × (length of ≡ 12)
+Inv-loop2 steps rules scope of₀ i rest₀ of rest = Giving i rest scope of
 
 abbrev μ-loop2 : tie.MeasureT-loop2
 μ-loop2 steps rules scope of₀ i rest₀ of rest = rest
 
 abbrev Inv-loop : tie.InvT-loop
-Inv-loop steps rules scope of₀ i₀ of i = (i ≤ rules) × (length of ≡ 12)
+Inv-loop steps rules scope of₀ i₀ of i = (i ≤ rules) × Naming i scope of
 
 abbrev μ-loop : tie.MeasureT-loop
 μ-loop steps rules scope of₀ i₀ of i = rules - i
 
 loop-holds : tie.Need-loop-holds Inv-loop2 μ-loop2 Inv-loop μ-loop
-loop-holds c = (omega arith, refl)
+loop-holds c = (omega arith, naming-none (c .args .scope .now))
 
 mul-rest : tie.Need-mul-rest Inv-loop2 μ-loop2 Inv-loop μ-loop
 mul-rest c = omega arith
@@ -30,7 +30,7 @@ element-copy-out-rest : tie.Need-element-copy-out-rest Inv-loop2 μ-loop2 Inv-lo
 element-copy-out-rest c = omega arith
 
 loop2-holds : tie.Need-loop2-holds Inv-loop2 μ-loop2 Inv-loop μ-loop
-loop2-holds c = (omega arith, c .before .before .loop .inv .1)
+loop2-holds c = let l = c .before .before .loop in giving-none (c .before .before .before .args .scope .now) (l .i) (l .of) (l .inv .1)
 
 lowest-requires : tie.Need-lowest-requires Inv-loop2 μ-loop2 Inv-loop μ-loop
 lowest-requires c κs = search needs
@@ -40,7 +40,7 @@ without-requires c κs = search needs
 
 -- the step of a turn
 below : (c : tie.After-without Inv-loop2 μ-loop2 Inv-loop μ-loop) → c .before .lowest .result < 12
-below c = lowest-below (c .before .before .before .loop2 .inv .0) (c .before .lowest .ensures .1)
+below c = lowest-below (c .before .before .before .loop2 .inv .few) (c .before .lowest .ensures .1)
 
 mul-with : tie.Need-mul-with Inv-loop2 μ-loop2 Inv-loop μ-loop
 mul-with c = omega (arith, below c)
@@ -62,7 +62,8 @@ loop2-less c = lowest-less (c .before .before .lowest .ensures .1) (c .before .w
 
 loop2-again : tie.Need-loop2-again Inv-loop2 μ-loop2 Inv-loop μ-loop
 loop2-again c =
-    (omega (arith, lowest-less (c .before .before .lowest .ensures .1) (c .before .without .ensures)), simp length-set (c .before .before .before .before .loop2 .inv .1))
+    let l = c .before .before .before .before .loop2 in
+    giving-next (c .before .before .before .before .before .before .before .before .args .scope .now) (c .before .before .before .before .before .before .before .loop .i) (l .rest) (c .before .before .lowest .result) (c .before .without .result) (c .with .result) (l .of) (l .inv) (c .before .before .lowest .ensures .1) (c .before .without .ensures) (c .with .ensures)
 
 add-i : tie.Need-add-i Inv-loop2 μ-loop2 Inv-loop μ-loop
 add-i c = omega arith
@@ -71,10 +72,10 @@ loop-less : tie.Need-loop-less Inv-loop2 μ-loop2 Inv-loop μ-loop
 loop-less c = omega arith
 
 loop-again : tie.Need-loop-again Inv-loop2 μ-loop2 Inv-loop μ-loop
-loop-again c = (omega arith, c .before .loop2 .inv .1)
+loop-again c = let l = c .before .loop2 in (omega arith, naming-next (c .before .before .before .before .before .args .scope .now) (c .before .before .before .before .loop .i) (l .rest) (l .of) (l .inv) (c .loop2-test .left))
 
 returns : tie.Need-returns Inv-loop2 μ-loop2 Inv-loop μ-loop
-returns c = c .before .loop .inv .1
+returns c = let l = c .before .loop in naming-all (c .before .before .args .scope .now) (c .before .before .args .rules) (l .i) (l .of) (l .inv .0) (c .loop-test .left) (l .inv .1)
 
 pub naming-spec : {M : Type 1} → statement M
 naming-spec =

@@ -11,17 +11,20 @@ next-slot-requires c κs = search needs
 remaining-requires : tie.Need-remaining-requires
 remaining-requires c κs = search needs
 
-exists-requires : tie.Need-exists-requires
-exists-requires c κs = search needs
+recent-requires : tie.Need-recent-requires
+recent-requires c κs = search needs
+
+varied-requires : tie.Need-varied-requires
+varied-requires c κs = search needs
 
 returns : tie.Need-returns
-returns c = searched-lost (c .before .before .before .before .before .before .before .before .pre .3) (c .before .before .before .before .before .remaining .ensures) (c .before .before .before .before .before .before .before .before .pre .0 .few-steps) (c .before .exists .ensures .0) (not-true (c .before .exists .result) (c .if1 .taken)) (c .before .exists .ensures .1)
+returns c = searched-lost (c .before .before .before .before .before .before .before .before .before .before .pre .3) (c .before .before .before .before .before .before .before .remaining .ensures) (c .before .before .before .before .before .before .before .before .before .before .pre .0 .few-steps) (c .before .varied .ensures .0) (not-true (c .before .varied .result) (c .if1 .taken)) (c .before .varied .ensures .1)
 
 keep-plan-requires : tie.Need-keep-plan-requires
-keep-plan-requires c κs = (c .before .before .before .before .before .before .before .before .before .before .before .pre .0 .few-steps, c .before .before .before .before .exists .ensures .0 .sized, found-people (c .before .before .before .before .exists .ensures .0) (not-false (c .before .before .before .before .exists .result) (c .before .before .before .if1 .left)) (c .before .before .before .before .before .before .before .before .before .before .before .pre .0 .few-people), search needs, search needs, search needs)
+keep-plan-requires c κs = (c .before .before .before .before .before .before .before .before .before .before .before .before .before .pre .0 .few-steps, c .before .before .before .before .varied .ensures .0 .sized, found-people (c .before .before .before .before .varied .ensures .0) (not-false (c .before .before .before .before .varied .result) (c .before .before .before .if1 .left)) (c .before .before .before .before .before .before .before .before .before .before .before .before .before .pre .0 .few-people), search needs, search needs, search needs)
 
 returns-2 : tie.Need-returns-2
-returns-2 c = searched-won (c .before .before .before .before .before .before .before .before .before .before .before .before .args .keeping) (c .before .before .before .before .before .before .before .before .before .before .before .before .pre .3) (c .before .before .before .before .before .before .before .before .before .remaining .ensures) (c .before .before .before .before .before .before .before .before .before .before .before .before .pre .0 .few-steps) (c .before .before .before .before .before .exists .ensures .0) (not-false (c .before .before .before .before .before .exists .result) (c .before .before .before .before .if1 .left)) (c .before .before .before .before .before .before .before .before .before .before .next-slot .ensures) (c .keep-plan .ensures) (c .before .before .before .before .before .exists .ensures .1)
+returns-2 c = searched-won (c .before .before .before .before .before .before .before .before .before .before .before .before .before .before .args .keeping) (c .before .before .before .before .before .before .before .before .before .before .before .before .before .before .pre .3) (c .before .before .before .before .before .before .before .before .before .before .before .remaining .ensures) (c .before .before .before .before .before .before .before .before .before .before .before .before .before .before .pre .0 .few-steps) (c .before .before .before .before .before .varied .ensures .0) (not-false (c .before .before .before .before .before .varied .result) (c .before .before .before .before .if1 .left)) (c .before .before .before .before .before .before .before .before .before .before .before .before .next-slot .ensures) (c .keep-plan .ensures) (c .before .before .before .before .before .varied .ensures .1)
 
 pub searched-spec : {M : Type 1} → statement M
 searched-spec =
@@ -29,7 +32,8 @@ searched-spec =
     (tie.spec
     next-slot-requires
     remaining-requires
-    exists-requires
+    recent-requires
+    varied-requires
     returns
     keep-plan-requires
     returns-2)

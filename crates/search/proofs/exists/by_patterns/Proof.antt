@@ -2,6 +2,7 @@
 use mathlib.Core.Path.{refl}
 use Rattle.search.proofs.Node.{ruled}
 use Rattle.search.proofs.Ends.{blank, finished-sized, existence-unstaffed, existence-ruled-out, start-patterned, reached-start, existence-lost, existence-won}
+use Rattle.realize.specs.Parts.{Tabled}
 use borrow.Author.Needs.{needs}
 use Rattle.search.proofs.exists.by_patterns.Statement.{statement}
 use Rattle.search.proofs.exists.by_patterns.Tie as tie
@@ -29,39 +30,59 @@ returns-2 c =
 named-requires : tie.Need-named-requires
 named-requires c κs = search needs
 
+crowds-requires : tie.Need-crowds-requires
+crowds-requires c κs = search needs
+
+reaches-requires : tie.Need-reaches-requires
+reaches-requires c κs = search needs
+
+-- the tables of the search
+tabled : (c : tie.After-reaches)
+    → Tabled (c .before .before .before .before .before .before .before .before .args .size .people) (c .before .before .before .before .before .before .before .before .args .size .levels) (c .before .before .before .before .before .before .before .before .args .class .now) (c .before .before .before .before .before .before .before .before .args .may .now) (c .before .crowds .result) (c .reaches .result)
+tabled c = record { crowds = c .before .crowds .ensures; reaches = c .reaches .ensures }
+
+naming-requires : tie.Need-naming-requires
+naming-requires c κs = search needs
+
 find-requires : tie.Need-find-requires
 find-requires c κs =
-    let a = c .before .before .before .before .before .before .before .before .args in
-    let p = c .before .before .before .before .before .before .before .before .pre in (
+    let a = c .before .before .before .before .before .before .before .before .before .before .before .before .before .before .args in
+    let p = c .before .before .before .before .before .before .before .before .before .before .before .before .before .before .pre in (
       p .0,
       p .1,
       p .2,
-      reached-start (p .0) (a .may .now) (c .before .before .named .result) blank refl
-          (c .before .before .before .before .eligible .result) (c .before .before .before .before .eligible .ensures) (c .before .before .before .if2 .left) (c .before .before .named .ensures),
+      reached-start (p .0) (a .may .now) (c .before .before .before .before .before .before .before .before .named .result) blank refl
+          (c .before .before .before .before .before .before .before .before .before .before .eligible .result) (c .before .before .before .before .before .before .before .before .before .before .eligible .ensures) (c .before .before .before .before .before .before .before .before .before .if2 .left) (c .before .before .before .before .before .before .before .before .named .ensures),
+      tabled (c .before .before .before .before .before .before),
+      c .before .before .before .before .before .naming .ensures,
     )
 
 returns-3 : tie.Need-returns-3
 returns-3 c =
-    let a = c .before .before .before .before .before .before .before .before .before .before .args in
-    let p = c .before .before .before .before .before .before .before .before .before .before .pre in
+    let a = c .before .before .before .before .before .before .before .before .before .before .before .before .before .before .before .before .args in
+    let p = c .before .before .before .before .before .before .before .before .before .before .before .before .before .before .before .before .pre in
     (existence-lost (p .0) (a .may .now) (a .plan .now) blank (c .before .find .result) (p .3) (c .before .find .ensures .0) (c .if3 .taken), c .before .find .ensures .1)
 
 spread-requires : tie.Need-spread-requires
-spread-requires c κs = search needs
+spread-requires c κs =
+    let p = c .before .before .before .before .before .before .before .before .before .before .before .before .before .before .before .before .before .pre in
+    (p .0 .few-steps, p .1, p .3)
 
 realize-requires : tie.Need-realize-requires
 realize-requires c κs =
-    let a = c .before .before .before .before .before .before .before .before .before .before .before .before .before .before .args in
-    let p = c .before .before .before .before .before .before .before .before .before .before .before .before .before .before .pre in
-    (finished-sized (p .0) (a .may .now) (c .before .before .before .before .before .find .result) (p .1) (c .before .before .before .before .before .find .ensures .0) (c .before .before .before .before .if3 .left), p .0 .few-people, c .before .before .spread .ensures .sized)
+    let a = c .before .before .before .before .before .before .before .before .before .before .before .before .before .before .before .before .before .before .before .before .before .before .args in
+    let p = c .before .before .before .before .before .before .before .before .before .before .before .before .before .before .before .before .before .before .before .before .before .before .pre in
+    let o = c .before .before .before .before .before .before .before .find in
+    let w = tabled (c .before .before .before .before .before .before .before .before .before .before .before .before .before .before) in
+    (finished-sized (p .0) (a .may .now) (o .result) (p .1) (o .ensures .0) (c .before .before .before .before .before .before .if3 .left) w, p .0 .few-people, w, c .before .before .before .before .spread .ensures .sized)
 
 returns-4 : tie.Need-returns-4
 returns-4 c =
-    let a = c .before .before .before .before .before .before .before .before .before .before .before .before .before .before .before .args in
-    let p = c .before .before .before .before .before .before .before .before .before .before .before .before .before .before .before .pre in
-    let o = c .before .before .before .before .before .before .find in
-    let t = c .before .before .before .before .before .before .before .before .before .before .before .before .before .before .staffed in
-    (existence-won (p .0) (a .may .now) (a .plan .now) (t .result) (o .result) (t .ensures) (c .before .before .before .before .before .before .before .before .before .before .before .before .before .if1 .left) (o .ensures .0) (c .before .before .before .before .before .if3 .left) (c .before .before .before .spread .ensures) (c .realize .ensures), o .ensures .1)
+    let a = c .before .before .before .before .before .before .before .before .before .before .before .before .before .before .before .before .before .before .before .before .before .before .before .args in
+    let p = c .before .before .before .before .before .before .before .before .before .before .before .before .before .before .before .before .before .before .before .before .before .before .before .pre in
+    let o = c .before .before .before .before .before .before .before .before .find in
+    let t = c .before .before .before .before .before .before .before .before .before .before .before .before .before .before .before .before .before .before .before .before .before .before .staffed in
+    (existence-won (p .0) (a .may .now) (a .plan .now) (t .result) (o .result) (t .ensures) (c .before .before .before .before .before .before .before .before .before .before .before .before .before .before .before .before .before .before .before .before .before .if1 .left) (o .ensures .0) (c .before .before .before .before .before .before .before .if3 .left) (c .before .before .before .before .before .spread .ensures) (c .realize .ensures), o .ensures .1)
 
 pub by-patterns-spec : {M : Type 1} → statement M
 by-patterns-spec =
@@ -72,6 +93,9 @@ by-patterns-spec =
     eligible-requires
     returns-2
     named-requires
+    crowds-requires
+    reaches-requires
+    naming-requires
     find-requires
     returns-3
     spread-requires

@@ -4,7 +4,7 @@ use Rattle.pattern.specs.Tables.{mayIn}
 use Rattle.eligible.proofs.Tests.{says-true}
 use Rattle.search.specs.Growth.{Joins}
 use Rattle.search.specs.State.{partner, depth}
-use Rattle.search.proofs.Node.{joinable, meetable, grew-unjoined, placeable, grown-patterned, grew-tested}
+use Rattle.search.proofs.Node.{joinable, meetable, grew-unjoined, placeable, grown-patterned, grown-spared, grew-tested}
 use Rattle.search.proofs.Meeting.{grew-unmet}
 use borrow.Author.Needs.{needs}
 use Rattle.search.proofs.grow.grow.Statement.{statement}
@@ -21,25 +21,16 @@ returns c =
     let p = c .before .before .before .pre in
     grew-unjoined (p .2) (mayIn (c .before .before .before .args .may .now)) (p .0 .few-steps) (c .before .joins .result) (c .before .joins .ensures) (c .if1 .taken)
 
-mul-meets : tie.Need-mul-meets
-mul-meets c = search needs
-
-element-copy-out-meets : tie.Need-element-copy-out-meets
-element-copy-out-meets c = search needs
-
-mul-meets-2 : tie.Need-mul-meets-2
-mul-meets-2 c = search needs
-
-element-copy-out-meets-2 : tie.Need-element-copy-out-meets-2
-element-copy-out-meets-2 c = search needs
-
 meets-requires : tie.Need-meets-requires
-meets-requires c κs = meetable (c .before .before .before .before .before .pre .2) (c .before .before .before .before .before .pre .0 .few-levels) (c .before .before .before .before .before .args .class .now) (c .before .before .before .before .before .pre .0 .classes)
+meets-requires c κs =
+    let p = c .before .before .before .pre in
+    meetable (p .2) (p .0 .few-levels) (c .before .before .before .args .reach .now) (p .0 .few-steps) (p .3 .reaches .sized)
 
 returns-2 : tie.Need-returns-2
 returns-2 c =
-    let p = c .before .before .before .before .before .before .before .pre in
-    grew-unmet (p .0) (p .2) (c .before .before .before .before .before .before .before .args .may .now) (c .before .meets .result) (c .before .meets .ensures) (c .if2 .taken)
+    let p = c .before .before .before .before .before .pre in
+    let a = c .before .before .before .before .before .args in
+    grew-unmet (p .0) (p .2) (a .may .now) (a .crowd .now) (a .reach .now) (p .3) (c .before .meets .result) (c .before .meets .ensures) (c .if2 .taken)
 
 -- the group is there
 joined : (c : tie.Else1) → Joins (c .before .before .before .args .placed) (c .before .before .before .args .label .now) (partner (c .before .before .before .args .w)) (depth (c .before .before .before .args .w))
@@ -47,18 +38,25 @@ joined c = says-true (c .before .joins .result) _ (c .before .joins .ensures) (n
 
 place-requires : tie.Need-place-requires
 place-requires c κs =
-    let p = c .before .before .before .before .before .before .before .before .pre in
-    placeable (p .2) (mayIn (c .before .before .before .before .before .before .before .before .args .may .now)) (p .0 .few-steps) (joined (c .before .before .before .before .before)) (p .0 .few-levels)
+    let p = c .before .before .before .before .before .before .pre in
+    placeable (p .2) (mayIn (c .before .before .before .before .before .before .args .may .now)) (p .0 .few-steps) (joined (c .before .before .before)) (p .0 .few-levels)
 
 passes-requires : tie.Need-passes-requires
 passes-requires c κs =
-    let p = c .before .before .before .before .before .before .before .before .before .before .pre in
-    (p .0, p .1, grown-patterned (p .2) (mayIn (c .before .before .before .before .before .before .before .before .before .before .args .may .now)) (p .0 .few-steps) (joined (c .before .before .before .before .before .before .before)) (c .before .place .ensures))
+    let p = c .before .before .before .before .before .before .before .before .pre in
+    let m = mayIn (c .before .before .before .before .before .before .before .before .args .may .now) in
+    let k = joined (c .before .before .before .before .before) in (
+      p .0,
+      p .1,
+      grown-patterned (p .2) m (p .0 .few-steps) k (c .before .place .ensures),
+      p .3,
+      grown-spared (p .2) m (p .0 .few-steps) k (c .before .place .ensures) (p .4) (p .0 .searchable .rule-ok),
+    )
 
 returns-3 : tie.Need-returns-3
 returns-3 c =
-    let p = c .before .before .before .before .before .before .before .before .before .before .before .pre in
-    grew-tested (p .2) (mayIn (c .before .before .before .before .before .before .before .before .before .before .before .args .may .now)) (p .0 .few-steps) (joined (c .before .before .before .before .before .before .before .before)) (c .before .before .place .ensures) (c .passes .ensures)
+    let p = c .before .before .before .before .before .before .before .before .before .pre in
+    grew-tested (p .2) (mayIn (c .before .before .before .before .before .before .before .before .before .args .may .now)) (p .0 .few-steps) (joined (c .before .before .before .before .before .before)) (c .before .before .place .ensures) (c .passes .ensures)
 
 pub grow-spec : {M : Type 1} → statement M
 grow-spec =
@@ -67,10 +65,6 @@ grow-spec =
     add-d
     joins-requires
     returns
-    mul-meets
-    element-copy-out-meets
-    mul-meets-2
-    element-copy-out-meets-2
     meets-requires
     returns-2
     place-requires

@@ -1,29 +1,29 @@
 -- `search::grow::passes` meets its contract: a pattern that a valid plan has passes both tests. Assumes nothing.
-use Rattle.search.proofs.Node.{ruled, sized, passing-ruled-out, passing-decided}
+use Rattle.search.proofs.Node.{ruled-among, sized, passing-ruled-out, passing-decided}
 use Rattle.search.proofs.grow.passes.Statement.{statement}
 use Rattle.search.proofs.grow.passes.Tie as tie
 
-eligible-requires : tie.Need-eligible-requires
-eligible-requires c κs = ruled (c .pre .0) (c .args .may .now) (c .args .placed) (c .args .label .now) (c .pre .2)
+eligible-among-requires : tie.Need-eligible-among-requires
+eligible-among-requires c κs = ruled-among (c .pre .0) (c .args .may .now) (c .args .placed) (c .args .label .now) (c .args .among) (c .pre .2) (c .pre .4)
 
 returns : tie.Need-returns
 returns c =
     let a = c .before .before .args in
-    passing-ruled-out (c .before .before .pre .0) (a .may .now) (a .placed) (a .label .now) (c .before .eligible .result) (c .before .eligible .ensures) (c .if1 .taken)
+    passing-ruled-out (c .before .before .pre .0) (a .may .now) (a .placed) (a .label .now) (a .among) (c .before .eligible-among .result) (c .before .before .pre .4) (c .before .eligible-among .ensures) (c .if1 .taken)
 
 realizable-requires : tie.Need-realizable-requires
 realizable-requires c κs =
     let a = c .before .before .args in
     let p = c .before .before .pre in
-    (sized (p .0) (a .may .now) (a .placed) (a .label .now) (p .1) (p .2), p .0 .few-people)
+    (sized (p .0) (a .may .now) (a .placed) (a .label .now) (p .1) (p .2) (p .3), p .0 .few-people, p .3)
 
 returns-2 : tie.Need-returns-2
 returns-2 c =
     let a = c .before .before .before .args in
     let p = c .before .before .before .pre in
-    passing-decided (p .0) (a .may .now) (a .placed) (a .label .now) (c .before .before .eligible .result) (c .realizable .result) (p .2)
-    (c .before .before .eligible .ensures) (c .before .if1 .left)
+    passing-decided (p .0) (a .may .now) (a .placed) (a .label .now) (a .among) (c .before .before .eligible-among .result) (c .realizable .result) (p .2) (p .4)
+    (c .before .before .eligible-among .ensures) (c .before .if1 .left)
     (c .realizable .ensures)
 
 pub passes-spec : {M : Type 1} → statement M
-passes-spec = tie.close (tie.spec eligible-requires returns realizable-requires returns-2)
+passes-spec = tie.close (tie.spec eligible-among-requires returns realizable-requires returns-2)
