@@ -2,9 +2,10 @@
 
 use std::time::{Duration, Instant};
 
-/// Quick calls are made so many times, and the best time counts.
-const REPEATS: usize = 5;
-const QUICK: Duration = Duration::from_millis(20);
+/// Calls are made again for so long, and at most so many times, and the best time counts: a call finds code and guesses of the
+/// processor in place only after some others.
+const REPEATS: usize = 50;
+const LONG_ENOUGH: Duration = Duration::from_millis(20);
 
 /// A time in nanoseconds; nothing where the search was out of time.
 pub type Nanos = Option<u64>;
@@ -41,9 +42,10 @@ fn once<T>(run: &mut impl FnMut() -> T) -> (T, Duration) {
 }
 
 pub fn timed<T>(mut run: impl FnMut() -> T) -> (T, Duration) {
+    let start = Instant::now();
     let (mut result, mut best) = once(&mut run);
     for _ in 1..REPEATS {
-        if best > QUICK {
+        if start.elapsed() > LONG_ENOUGH {
             break;
         }
         let (again, time) = once(&mut run);

@@ -45,7 +45,7 @@ unfolding Trial
 trial-tired j dom plan = tt
 
 -- one bit of a word
-own-bit : (n : ℕ) → n < 64 → (p : ℕ) → hasBit (1 * 2 ^ n % 18446744073709551616) p ≡ eqb p n
+pub own-bit : (n : ℕ) → n < 64 → (p : ℕ) → hasBit (1 * 2 ^ n % 18446744073709551616) p ≡ eqb p n
 own-bit n l p = ap (λ (m : ℕ). hasBit m p) (shl-exact 1 n 64 (lit< tt) (omega arith) ∙ one-mul (2 ^ n)) ∙ one-bit n p
 
 module _ (dom : List ℕ) (sized : length dom ≡ 12) (s p : ℕ) (below : s < 12) (person : p < 64) where

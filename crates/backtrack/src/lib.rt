@@ -11,7 +11,7 @@ use narrow::mates::mates;
 use narrow::mates::naming;
 use narrow::propagate::propagate;
 ghost use mathlib.Core.Path.{_≡_};
-ghost use Prim.Native.Nat.{_<_};
+ghost use Prim.Native.Nat.{_<_, _≤_};
 ghost use lib.ListN.{length};
 ghost use Rattle.pattern.specs.Tables.{jobIn};
 ghost use Rattle.levels.specs.Given.{Given};
@@ -26,7 +26,14 @@ pub enum Tried {
 }
 
 // All rules.
-const ALL: u64 = 0xffff_ffff_ffff_ffff;
+fn all_rules(rules: usize) -> u64
+    requires { ⌜ rules ≤ 64 ⌝ }
+{
+    if rules == 0 {
+        return 0;
+    }
+    0xffff_ffff_ffff_ffff >> (64 - rules)
+}
 
 // The first plan of the domains with person `p` at step `s`.
 fn branch(
@@ -156,6 +163,7 @@ fn from_masks(
     ensures { λ r. ⌜ Trial (jobIn (size .steps) (size .people) (size .levels) (now (mates .entry)) (size .rules) (now (kind .entry)) (now (level .entry)) (now (limit .entry)) (now (scope .entry)))
         (now (may .entry)) (now (plan .exit)) r × (length (now (plan .exit)) ≡ 12) ⌝ }
 {
+    let pending = all_rules(size.rules);
     let mut dom = *may;
     let mut rest = effort;
     if !propagate(
@@ -166,7 +174,7 @@ fn from_masks(
         limit,
         scope,
         of,
-        ALL,
+        pending,
         &mut dom,
         &mut rest,
     ) {

@@ -15,11 +15,12 @@ use borrow.Author.Tests.{lt-ltb}
 use Rattle.bits.specs.Word.{hasBit}
 use Rattle.bits.proofs.Below.{true-false}
 use Rattle.bits.proofs.Counting.{and-of}
-use Rattle.bits.proofs.SetLaws.{zero-empty, mod-bit, one-bit}
+use Rattle.bits.proofs.SetLaws.{zero-empty, mod-bit}
 use Rattle.workflow.specs.Problem.{Job, May, Valid}
 use Rattle.workflow.specs.First.{firstPlan}
 use Rattle.workflow.proofs.First.{no-valid-plan}
 use Rattle.pattern.specs.Tables.{mayIn, planIn}
+use Rattle.backtrack.proofs.Extending.{own-bit}
 use Rattle.search.specs.Existence.{Existence}
 use Rattle.first.specs.Settle.{Standing, Bettering, Settled, answer}
 use Rattle.first.proofs.Narrow.{Narrowed, before-less, before-standing, before-first, before-none, fixed-standing, fixed-first, standing-first}
@@ -31,12 +32,9 @@ bit-word n l = shl-exact 1 n 64 (lit< tt) (omega arith) ∙ one-mul (2 ^ n)
 pub bit-word-pos : (n : ℕ) → n < 64 → 0 < 1 * 2 ^ n % 18446744073709551616
 bit-word-pos n l = rw (bit-word n l) (pow-pos n)
 
--- the people before n of a mask, and n alone
+-- the people before n of a mask
 pub before-bit : (x n : ℕ) → n < 64 → (p : ℕ) → hasBit (x % (1 * 2 ^ n % 18446744073709551616)) p ≡ ltb p n && hasBit x p
 before-bit x n l p = ap (λ (m : ℕ). hasBit (x % m) p) (bit-word n l) ∙ mod-bit n x p
-
-pub own-bit : (n : ℕ) → n < 64 → (p : ℕ) → hasBit (1 * 2 ^ n % 18446744073709551616) p ≡ eqb p n
-own-bit n l p = ap (λ (m : ℕ). hasBit m p) (bit-word n l) ∙ one-bit n p
 
 -- a mask replaced
 mask-set : (may may′ : List ℕ) (s x : ℕ) (f : ℕ → Bool) → length may′ ≡ 12 → s < 12 → ((p : ℕ) → hasBit x p ≡ f p)

@@ -6,3 +6,4 @@ pub mod Staff
 pub mod Ends
 pub mod Attempt
 pub mod Relaxing
+pub mod LowerLimits

@@ -2,3 +2,4 @@ pub mod Growth
 pub mod Meet
 pub mod State
 pub mod Existence
+pub mod Limits

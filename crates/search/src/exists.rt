@@ -1,5 +1,6 @@
 // Whether a job has a valid plan, and one where it has.
 use super::find::find;
+use super::limits::limits_reached;
 use super::thorough::thorough;
 use backtrack::Tried;
 use backtrack::attempt;
@@ -94,6 +95,9 @@ pub fn by_patterns(
     let rest = named(size.steps, size.rules, scope);
     let crowd = crowds(size.people, size.levels, class);
     let reach = reaches(size.people, size.levels, class, may);
+    if !limits_reached(size.steps, size.rules, kind, level, limit, scope, &reach) {
+        return false;
+    }
     let of = naming(size.steps, size.rules, scope);
     if !find(
         size,

@@ -3,6 +3,7 @@ pub mod choose;
 pub mod exists;
 pub mod find;
 pub mod grow;
+pub mod limits;
 pub mod meet;
 pub mod place;
 pub mod thorough;

@@ -1,21 +1,25 @@
 -- `backtrack::from_masks` meets its contract. Assumes nothing.
+use native.Mathlib.Omega.{arith}
 use borrow.Author.Tests.{not-true, not-false}
 use Rattle.backtrack.proofs.Extending.{narrowed-trial, narrowed-lost}
-use borrow.Author.Needs.{needs}
 use Rattle.backtrack.proofs.from_masks.Statement.{statement}
 use Rattle.backtrack.proofs.from_masks.Tie as tie
 
+all-rules-requires : tie.Need-all-rules-requires
+all-rules-requires c κs = c .pre .0 .few-rules
+
 propagate-requires : tie.Need-propagate-requires
-propagate-requires c κs = (c .before .before .before .pre .0, c .before .before .before .pre .1, c .before .before .before .pre .2)
+propagate-requires c κs = (c .before .before .before .before .pre .0, c .before .before .before .before .pre .1, c .before .before .before .before .pre .2)
 
 returns : tie.Need-returns
-returns c = (narrowed-lost _ _ _ _ _ (c .before .propagate .ensures) (not-true _ (c .if1 .taken)), c .before .before .before .before .before .pre .3)
+returns c = (narrowed-lost _ _ _ _ _ (c .before .propagate .ensures) (not-true _ (c .if1 .taken)), c .before .before .before .before .before .before .pre .3)
 
 extend-requires : tie.Need-extend-requires
-extend-requires c κs = search needs
+extend-requires c κs = (c .before .before .before .before .before .before .before .before .before .pre .0, c .before .before .before .before .before .before .before .before .before .pre .1, c .before .before .before .before .propagate .ensures .fewer .sized, c .before .before .before .before .before .before .before .before .before .pre .3, record { one = λ t p p′ l. absurd (omega arith) })
 
 returns-2 : tie.Need-returns-2
 returns-2 c = (narrowed-trial _ _ _ _ _ (c .before .before .before .before .before .propagate .ensures) (not-false _ (c .before .before .before .before .if1 .left)) _ (c .extend .ensures .0), c .extend .ensures .1)
 
 pub from-masks-spec : {M : Type 1} → statement M
-from-masks-spec = tie.close (tie.spec propagate-requires returns extend-requires returns-2)
+from-masks-spec =
+    tie.close (tie.spec all-rules-requires propagate-requires returns extend-requires returns-2)

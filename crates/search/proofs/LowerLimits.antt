@@ -1,0 +1,436 @@
+-- A valid plan gives an assignment for each lower limit: the steps that open a class have their class, the others the extra classes.
+-- Assumes nothing.
+use mathlib.Core.Bool.{Bool, true, false, not, cond, _&&_, _||_}
+use mathlib.Core.List.{List}
+use mathlib.Core.Path.{_≡_, refl, sym, subst, ap, _∙_}
+use Prim.Native.Nat.{ℕ, zero, suc, _+_, _*_, _-_, _%_, _^_, _≤_, _<_}
+use native.Mathlib.Omega.{arith}
+use native.Mathlib.Nat.{not-suc-le-zero}
+use lib.Bits.{bitOr, bitXor}
+use lib.Count.{ones}
+use lib.Dec.{eqb, ltb}
+use lib.ListN.{length, getD, set, replicate, length-set, length-replicate}
+use lib.Seq.{getD-set-same, getD-set-other}
+use borrow.Author.Tests.{eqb-true, eqb-false, eq-eqb, ne-eqb, ltb-true, ltb-false, lt-ltb, not-true, not-false}
+use Rattle.bits.specs.Below.{count}
+use Rattle.bits.specs.Word.{hasBit, bitsSet}
+use Rattle.bits.specs.Set.{unlike, Added, Removed, Lowest}
+use Rattle.bits.proofs.Below.{by-cases, true-false, and-left, and-right}
+use Rattle.bits.proofs.Counting.{and-of, is-false, count-true, count-false, count-zero, count-grows}
+use Rattle.bits.proofs.SetLaws.{empty-lacks, or-bit, xor-bit, mod-bit, added-has, added-keeps, added-other, removed-was, removed-differs}
+use Rattle.workflow.specs.Problem.{Valid, Asks, Fits, opens, distinct}
+use Rattle.workflow.proofs.Counts.{opens-scope, opens-new}
+use Rattle.matching.specs.Assignment.{Assignment, Covers, inMask, suits}
+use Rattle.pattern.specs.Tables.{kindIn, classIn, mayIn, jobIn}
+use Rattle.pattern.proofs.Leader.{leader-le}
+use Rattle.eligible.proofs.Open.{span}
+use Rattle.relax.proofs.Carrying.{scope-counted}
+use Rattle.realize.specs.Parts.{Tabled, TablesOf}
+use Rattle.realize.proofs.Reach.{tables-of}
+use Rattle.levels.specs.Given.{Given}
+use Rattle.search.specs.Existence.{Existence}
+use Rattle.search.specs.Limits.{Gathering, Extra, Extras, Edges, Manned, Reaching, Bounded, Limits}
+
+-- ---- the classes of a scope
+
+or-left : (a b : Bool) → a ≡ true → a || b ≡ true
+or-left true b h = refl
+or-left false b h = true-false refl (sym h)
+
+or-right : (a b : Bool) → b ≡ true → a || b ≡ true
+or-right true b h = refl
+or-right false b h = h
+
+or-has-left : (a b v : ℕ) → hasBit a v ≡ true → hasBit (bitOr a b) v ≡ true
+or-has-left a b v h = or-bit a b v ∙ or-left (hasBit a v) (hasBit b v) h
+
+or-has-right : (a b v : ℕ) → hasBit b v ≡ true → hasBit (bitOr a b) v ≡ true
+or-has-right a b v h = or-bit a b v ∙ or-right (hasBit a v) (hasBit b v) h
+
+module _ (reach : List ℕ) (q scope : ℕ) where
+  pub gathering-none : Gathering 0 reach q scope 0
+  gathering-none = record { has = λ s v l. absurd (not-suc-le-zero l) }
+
+  -- a step outside the scope
+  pub gathering-past : (n all : ℕ) → hasBit scope n ≡ false → Gathering n reach q scope all → Gathering (n + 1) reach q scope all
+  gathering-past n all f w =
+      record {
+        has = λ s v l i h.
+            by-cases (eqb s n)
+            (λ e. true-false (subst (λ (x : ℕ). hasBit scope x ≡ true) (eqb-true s n e) i) f)
+            (λ e. let d : s ≡ n → ⊥ = eqb-false s n e in w .has s v (omega arith) i h);
+      }
+
+  pub gathering-more : (n all : ℕ) → Gathering n reach q scope all → Gathering (n + 1) reach q scope (bitOr all (getD reach (q * 12 + n) 0))
+  gathering-more n all w =
+      record {
+        has = λ s v l i h.
+            by-cases (eqb s n)
+            (λ e. or-has-right all (getD reach (q * 12 + n) 0) v (subst (λ (x : ℕ). hasBit (getD reach (q * 12 + x) 0) v ≡ true) (eqb-true s n e) h))
+            (λ e. let d : s ≡ n → ⊥ = eqb-false s n e in or-has-left all (getD reach (q * 12 + n) 0) v (w .has s v (omega arith) i h));
+      }
+
+  pub gathering-all : (steps n all : ℕ) → steps ≤ n → Gathering n reach q scope all → Gathering steps reach q scope all
+  gathering-all steps n all l w = record { has = λ s v m. w .has s v (omega arith) }
+
+-- ---- classes to spare
+
+-- the classes taken, and those that are free
+pub record Taking (all n free mask : ℕ) : Type 0 where
+  pub extra : Extra all n mask
+  pub outside : (v : ℕ) → hasBit free v ≡ true → hasBit all v ≡ false
+  pub untaken : (v : ℕ) → hasBit free v ≡ true → hasBit mask v ≡ false
+
+pub taking-none : (all full : ℕ) → Taking all 0 (bitXor (bitOr all full) all) 0
+taking-none all full =
+    record {
+      extra = record {
+        member = λ k. 0;
+        below = λ k l. absurd (not-suc-le-zero l);
+        has = λ k l. absurd (not-suc-le-zero l);
+        fresh = λ k l. absurd (not-suc-le-zero l);
+        apart = λ k m l. absurd (not-suc-le-zero l);
+      };
+      outside = λ v h. lacks (hasBit all v) (hasBit full v) (sym (xor-bit (bitOr all full) all v ∙ ap (λ (b : Bool). unlike b (hasBit all v)) (or-bit all full v)) ∙ h);
+      untaken = λ v h. empty-lacks v;
+    }
+  where
+    lacks : (a b : Bool) → unlike (a || b) a ≡ true → a ≡ false
+    lacks true b h = sym h
+    lacks false b h = refl
+
+-- the members so far, and c after them
+append : (ℕ → ℕ) → ℕ → ℕ → ℕ → ℕ
+append m n c k = cond (eqb k n) c (m k)
+
+append-last : (m : ℕ → ℕ) (n c k : ℕ) → k ≡ n → append m n c k ≡ c
+unfolding append
+append-last m n c k e = rw (eq-eqb k n e) refl
+
+append-other : (m : ℕ → ℕ) (n c k : ℕ) → (k ≡ n → ⊥) → append m n c k ≡ m k
+unfolding append
+append-other m n c k d = rw (ne-eqb k n d) refl
+
+module _ {all n free mask c free′ mask′ : ℕ} (w : Taking all n free mask) (c-below : c < 64) (low : Lowest free c) (gone : Removed free c free′)
+    (more : Added mask c mask′) where
+  abbrev so-far : ℕ → ℕ
+  so-far = w .extra .member
+
+  each : (P : ℕ → Type 0) → P c → ((k : ℕ) → k < n → P (so-far k)) → (k : ℕ) → k < n + 1 → P (append so-far n c k)
+  each P last before k l =
+      by-cases (eqb k n)
+      (λ e. subst P (sym (append-last so-far n c k (eqb-true k n e))) last)
+      (λ e. let d : k ≡ n → ⊥ = eqb-false k n e in subst P (sym (append-other so-far n c k d)) (before k (omega arith)))
+
+  new : (k : ℕ) → k < n → so-far k ≡ c → ⊥
+  new k l e = true-false (subst (λ (x : ℕ). hasBit mask x ≡ true) e (w .extra .has k l)) (w .untaken c (low .has))
+
+  apart : (k l : ℕ) → k < n + 1 → l < n + 1 → append so-far n c k ≡ append so-far n c l → k ≡ l
+  apart k l a b e =
+      by-cases (eqb k n)
+      (λ x. by-cases (eqb l n)
+      (λ y. eqb-true k n x ∙ sym (eqb-true l n y))
+      (λ y. let d : l ≡ n → ⊥ = eqb-false l n y in
+      absurd (new l (omega arith) (sym (append-other so-far n c l d) ∙ sym e ∙ append-last so-far n c k (eqb-true k n x)))))
+      (λ x. let d : k ≡ n → ⊥ = eqb-false k n x in by-cases (eqb l n)
+      (λ y. absurd (new k (omega arith) (sym (append-other so-far n c k d) ∙ e ∙ append-last so-far n c l (eqb-true l n y))))
+      (λ y. let f : l ≡ n → ⊥ = eqb-false l n y in
+      w .extra .apart k l (omega arith) (omega arith) (sym (append-other so-far n c k d) ∙ e ∙ append-other so-far n c l f)))
+
+  pub taking-more : Taking all (n + 1) free′ mask′
+  taking-more =
+      record {
+        extra = record {
+          member = append so-far n c;
+          below = each (λ (x : ℕ). x < 64) c-below (w .extra .below);
+          has = each (λ (x : ℕ). hasBit mask′ x ≡ true) (added-has more) (λ k l. added-keeps more (so-far k) (w .extra .has k l));
+          fresh = each (λ (x : ℕ). hasBit all x ≡ false) (w .outside c (low .has)) (w .extra .fresh);
+          apart = apart;
+        };
+        outside = λ v h. w .outside v (removed-was gone v h);
+        untaken = λ v h. added-other more v (removed-differs gone v h) ∙ w .untaken v (removed-was gone v h);
+      }
+
+pub taken : {all n free mask : ℕ} (spare : ℕ) → n ≤ spare → spare ≤ n → Taking all n free mask → Extras all spare true mask
+taken {all} {n} {free} {mask} spare l h w = let e : n ≡ spare = omega arith in record { extra = λ _. subst (λ (x : ℕ). Extra all x mask) e (w .extra) }
+
+pub too-few : (all spare mask : ℕ) → Extras all spare false mask
+too-few all spare mask = record { extra = λ t. true-false refl (sym t) }
+
+-- ---- the edges
+
+module _ (reach : List ℕ) (q extra : ℕ) where
+  pub edges-none : Edges 0 reach q extra (replicate {A = ℕ} 12 0)
+  edges-none =
+      record {
+        sized = length-replicate {A = ℕ} 12 0;
+        own = λ s v l. absurd (not-suc-le-zero l);
+        shared = λ s v l. absurd (not-suc-le-zero l);
+      }
+
+  pub edges-more : (n : ℕ) (edges : List ℕ) → n < 12 → Edges n reach q extra edges
+      → Edges (n + 1) reach q extra (set edges n (bitOr (getD reach (q * 12 + n) 0) extra))
+  edges-more n edges l w =
+      record {
+        sized = length-set edges n row ∙ w .sized;
+        own = λ s v m h.
+            by-cases (eqb s n)
+            (λ e. last s v (eqb-true s n e)
+            (or-has-left (getD reach (q * 12 + n) 0) extra v (subst (λ (x : ℕ). hasBit (getD reach (q * 12 + x) 0) v ≡ true) (eqb-true s n e) h)))
+            (λ e. let d : s ≡ n → ⊥ = eqb-false s n e in other s v d (w .own s v (omega arith) h));
+        shared = λ s v m h.
+            by-cases (eqb s n)
+            (λ e. last s v (eqb-true s n e) (or-has-right (getD reach (q * 12 + n) 0) extra v h))
+            (λ e. let d : s ≡ n → ⊥ = eqb-false s n e in other s v d (w .shared s v (omega arith) h));
+      }
+    where
+      row : ℕ
+      row = bitOr (getD reach (q * 12 + n) 0) extra
+
+      last : (s v : ℕ) → s ≡ n → hasBit row v ≡ true → hasBit (getD (set edges n row) s 0) v ≡ true
+      last s v e h =
+          subst (λ (x : ℕ). hasBit (getD (set edges n row) x 0) v ≡ true) (sym e)
+          (ap (λ (x : ℕ). hasBit x v) (getD-set-same edges n row 0 (omega (arith, w .sized))) ∙ h)
+
+      other : (s v : ℕ) → (s ≡ n → ⊥) → hasBit (getD edges s 0) v ≡ true → hasBit (getD (set edges n row) s 0) v ≡ true
+      other s v d h = ap (λ (x : ℕ). hasBit x v) (getD-set-other edges n s row 0 d) ∙ h
+
+  pub edges-all : (steps n : ℕ) (edges : List ℕ) → steps ≤ n → Edges n reach q extra edges → Edges steps reach q extra edges
+  edges-all steps n edges l w =
+      record { sized = w .sized; own = λ s v m. w .own s v (omega arith); shared = λ s v m. w .shared s v (omega arith) }
+
+-- ---- counts
+
+count-upto : (m n : ℕ) (f : ℕ → Bool) → m ≤ n → count m f ≤ count n f
+count-upto m zero f l = let e : m ≡ 0 = omega arith in subst (λ (x : ℕ). count x f ≤ count 0 f) (sym e) (omega arith)
+count-upto m (suc n) f l =
+    by-cases (eqb m (suc n))
+    (λ t. let e : m ≡ suc n = eqb-true m (suc n) t in subst (λ (x : ℕ). count x f ≤ count (suc n) f) (sym e) (omega arith))
+    (λ t. let d : m ≡ suc n → ⊥ = eqb-false m (suc n) t in
+    let r : count m f ≤ count n f = count-upto m n f (omega arith) in omega (arith, count-grows n f))
+
+-- the numbers before one that has f are fewer than those before any later one
+count-before : (m n : ℕ) (f : ℕ → Bool) → f m ≡ true → m < n → count m f < count n f
+count-before m n f h l = omega (arith, count-true m f h, count-upto (suc m) n f l)
+
+-- what h has without f
+less : (ℕ → Bool) → (ℕ → Bool) → ℕ → Bool
+less h f k = h k && not (f k)
+
+less-not : (h f : ℕ → Bool) (k : ℕ) → f k ≡ true → less h f k ≡ false
+unfolding less
+less-not h f k t = is-false _ (λ u. true-false t (not-true (f k) (and-right (h k) _ u)))
+
+less-out : (h f : ℕ → Bool) (k : ℕ) → h k ≡ false → less h f k ≡ false
+unfolding less
+less-out h f k t = is-false _ (λ u. true-false (and-left (h k) _ u) t)
+
+less-of : (h f : ℕ → Bool) (k : ℕ) → h k ≡ true → f k ≡ false → less h f k ≡ true
+unfolding less
+less-of h f k t u = and-of (h k) (not (f k)) t (rw u refl)
+
+count-less : (n : ℕ) (h f : ℕ → Bool) → ((k : ℕ) → f k ≡ true → h k ≡ true) → count n h ≡ count n f + count n (less h f)
+count-less zero h f part = let a = count-zero h in let b = count-zero f in let d = count-zero (less h f) in omega arith
+count-less (suc n) h f part =
+    let r : count n h ≡ count n f + count n (less h f) = count-less n h f part in
+    by-cases (f n)
+    (λ t. omega (arith, count-true n h (part n t), count-true n f t, count-false n (less h f) (less-not h f n t)))
+    (λ t. by-cases (h n)
+    (λ u. omega (arith, count-true n h u, count-false n f t, count-true n (less h f) (less-of h f n u t)))
+    (λ u. omega (arith, count-false n h u, count-false n f t, count-false n (less h f) (less-out h f n u))))
+
+-- ---- the assignment
+
+-- steps that open a class have it, and the others the extra ones in turn
+spreading : (ℕ → Bool) → (ℕ → ℕ) → (ℕ → ℕ) → ℕ → ℕ
+spreading scope c member s = cond (opens scope c s) (c s) (member (count s (less scope (opens scope c))))
+
+module _ (scope : ℕ → Bool) (c member : ℕ → ℕ) (s : ℕ) where
+  spreading-own : opens scope c s ≡ true → spreading scope c member s ≡ c s
+  unfolding spreading
+  spreading-own h = rw h refl
+
+  spreading-extra : opens scope c s ≡ false → spreading scope c member s ≡ member (count s (less scope (opens scope c)))
+  unfolding spreading
+  spreading-extra h = rw h refl
+
+in-groups : (steps scope g : ℕ) → inMask (scope % 2 ^ steps) g ≡ true → (g < steps) × (hasBit scope g ≡ true)
+in-groups steps scope g h =
+    let b : ltb g steps && hasBit scope g ≡ true = sym (mod-bit steps scope g) ∙ and-right (ltb g 12) _ h in
+    (ltb-true g steps (and-left (ltb g steps) _ b), and-right (ltb g steps) _ b)
+
+module _ {steps : ℕ} {reach : List ℕ} {q limit scope all mask : ℕ} {edges : List ℕ} (gathered : Gathering steps reach q scope all)
+    (extra : Extra all (bitsSet steps scope - limit) mask) (w : Edges steps reach q mask edges) (c : ℕ → ℕ) (manned : Manned steps reach q scope c)
+    (enough : limit ≤ distinct steps (hasBit scope) c) where
+  abbrev idle : ℕ → Bool
+  idle = less (hasBit scope) (opens (hasBit scope) c)
+
+  rank : (s : ℕ) → s < steps → idle s ≡ true → count s idle < bitsSet steps scope - limit
+  unfolding distinct
+  rank s l h =
+      let a : count s idle < count steps idle = count-before s steps idle h l in
+      let b : bitsSet steps scope ≡ count steps (opens (hasBit scope) c) + count steps idle
+      = count-less steps (hasBit scope) (opens (hasBit scope) c) (opens-scope (hasBit scope) c)
+      in
+      let d : limit ≤ count steps (opens (hasBit scope) c) = enough in
+      omega arith
+
+  idle-of : (s : ℕ) → hasBit scope s ≡ true → opens (hasBit scope) c s ≡ false → idle s ≡ true
+  idle-of s i h = less-of (hasBit scope) (opens (hasBit scope) c) s i h
+
+  abbrev f : ℕ → ℕ
+  f = spreading (hasBit scope) c (extra .member)
+
+  suited : (s : ℕ) → s < steps → hasBit scope s ≡ true → suits edges s (f s) ≡ true
+  suited s l i =
+      by-cases (opens (hasBit scope) c s)
+      (λ t. subst (λ (x : ℕ). suits edges s x ≡ true) (sym (spreading-own (hasBit scope) c (extra .member) s t))
+      (and-of (ltb (c s) 64) _ (lt-ltb (c s) 64 (manned s l i .0)) (w .own s (c s) l (manned s l i .1))))
+      (λ t. let r : count s idle < bitsSet steps scope - limit = rank s l (idle-of s i t) in
+      subst (λ (x : ℕ). suits edges s x ≡ true) (sym (spreading-extra (hasBit scope) c (extra .member) s t))
+      (and-of (ltb (extra .member (count s idle)) 64) _ (lt-ltb (extra .member (count s idle)) 64 (extra .below (count s idle) r))
+      (w .shared s (extra .member (count s idle)) l (extra .has (count s idle) r))))
+
+  -- a class opened is no extra one
+  own-extra : (s t : ℕ) → s < steps → t < steps → hasBit scope s ≡ true → hasBit scope t ≡ true → opens (hasBit scope) c s ≡ true
+      → opens (hasBit scope) c t ≡ false → f s ≡ f t → ⊥
+  own-extra s t l m i k a b e =
+      let d : c s ≡ extra .member (count t idle) = sym (spreading-own (hasBit scope) c (extra .member) s a) ∙ e ∙ spreading-extra (hasBit scope) c (extra .member) t b in
+      true-false (gathered .has s (c s) l i (manned s l i .1))
+      (ap (hasBit all) d ∙ extra .fresh (count t idle) (rank t m (idle-of t k b)))
+
+  -- two steps, the first before the second
+  ordered : (s t : ℕ) → s < t → t < steps → hasBit scope s ≡ true → hasBit scope t ≡ true → f s ≡ f t → ⊥
+  ordered s t o m i k e =
+      by-cases (opens (hasBit scope) c s)
+      (λ a. by-cases (opens (hasBit scope) c t)
+      (λ b. opens-new (hasBit scope) c t b s o i
+      (sym (spreading-own (hasBit scope) c (extra .member) s a) ∙ e ∙ spreading-own (hasBit scope) c (extra .member) t b))
+      (λ b. own-extra s t (omega arith) m i k a b e))
+      (λ a. by-cases (opens (hasBit scope) c t)
+      (λ b. own-extra t s m (omega arith) k i b a (sym e))
+      (λ b.
+      let x : count s idle < count t idle = count-before s t idle (idle-of s i a) o in
+      let y : count t idle < bitsSet steps scope - limit = rank t m (idle-of t k b) in
+      let z : count s idle ≡ count t idle
+      = extra .apart (count s idle) (count t idle) (omega arith) y
+      (sym (spreading-extra (hasBit scope) c (extra .member) s a) ∙ e ∙ spreading-extra (hasBit scope) c (extra .member) t b)
+      in
+      omega arith))
+
+  assignment : Assignment (inMask (scope % 2 ^ steps)) (suits edges) f
+  assignment =
+      record {
+        along = λ g h. let x = in-groups steps scope g h in suited g (x .0) (x .1);
+        apart = λ g h a b e.
+            let x = in-groups steps scope g a in
+            let y = in-groups steps scope h b in
+            by-cases (ltb g h)
+            (λ t. absurd (ordered g h (ltb-true g h t) (y .0) (x .1) (y .1) e))
+            (λ t. by-cases (ltb h g)
+            (λ u. absurd (ordered h g (ltb-true h g u) (x .0) (y .1) (x .1) (sym e)))
+            (λ u. let n : h ≤ g = ltb-false g h t in let m : g ≤ h = ltb-false h g u in omega arith));
+      }
+
+module _ (steps : ℕ) (few : steps ≤ 12) (reach : List ℕ) (q limit scope : ℕ) where
+  pub reaching : {all : ℕ} (mask : ℕ) {edges : List ℕ} {found : Bool} {at : ℕ → ℕ} (enough : Bool) → Gathering steps reach q scope all
+      → Extras all (ones (scope % (1 * 2 ^ steps % 65536)) - limit) enough mask → not enough ≡ false → Edges steps reach q mask edges
+      → Covers (inMask (scope % (1 * 2 ^ steps % 65536))) (suits edges) found at → Reaching steps reach q limit scope found
+  reaching {all} mask {edges} {found} {at} enough g x t w o =
+      record {
+        short = λ e c manned l.
+            let ex : Extra all (bitsSet steps scope - limit) mask
+            = subst (λ (n : ℕ). Extra all (n - limit) mask) (scope-counted steps few scope) (x .extra (not-false enough t))
+            in
+            subst (λ (n : ℕ). Covers (inMask (scope % n)) (suits edges) found at) (span steps few) o .complete e
+            (spreading (hasBit scope) c (ex .member)) (assignment g ex w c manned l);
+      }
+
+  pub reaching-unknown : Reaching steps reach q limit scope true
+  reaching-unknown = record { short = λ e. true-false refl e }
+
+-- ---- the rules
+
+module _ {steps rules : ℕ} {kind level limit scope reach : List ℕ} where
+  pub limits-short : (i : ℕ) (r : Bool) → i < rules → 4 ≤ getD kind i 0
+      → Reaching steps reach (getD level i 0 - 1) (getD limit i 0) (getD scope i 0) r → not r ≡ true → Limits steps rules kind level limit scope reach false
+  limits-short i r l k w f = record { unreached = λ _. record { rule = i; below = l; lower = k; short = w .short (not-true r f) } }
+
+  pub limits-passed : Limits steps rules kind level limit scope reach true
+  limits-passed = record { unreached = λ e. true-false refl e }
+
+-- what a lower limit is and asks
+lower-fits : (k limit size : ℕ) → 4 ≤ k → Fits (kindIn k) limit size → limit ≤ size
+lower-fits zero limit size l f = absurd (omega arith)
+lower-fits (suc zero) limit size l f = absurd (omega arith)
+lower-fits (suc (suc zero)) limit size l f = absurd (omega arith)
+lower-fits (suc (suc (suc zero))) limit size l f = absurd (omega arith)
+lower-fits (suc (suc (suc (suc k)))) limit size l f = f .2
+
+lower-asks : (k limit n : ℕ) → 4 ≤ k → Asks (kindIn k) limit n → limit ≤ n
+lower-asks zero limit n l f = absurd (omega arith)
+lower-asks (suc zero) limit n l f = absurd (omega arith)
+lower-asks (suc (suc zero)) limit n l f = absurd (omega arith)
+lower-asks (suc (suc (suc zero))) limit n l f = absurd (omega arith)
+lower-asks (suc (suc (suc (suc k)))) limit n l f = f
+
+module _ {steps people levels rules : ℕ} {class kind level limit scope : List ℕ}
+    (given : Given steps people levels rules class kind level limit scope) where
+  pub bounded : Bounded steps rules kind level limit scope
+  bounded =
+      record {
+        few-steps = given .few-steps;
+        few-rules = given .few-rules;
+        kinds = given .kinds;
+        levels = given .rule-levels;
+        limits = given .limits;
+        scopes = given .scopes;
+        from = λ i l. given .searchable .rule-ok i l .from;
+        to = λ i l. omega (arith, given .searchable .rule-ok i l .to, given .few-levels);
+        within = λ i l k. lower-fits (getD kind i 0) (getD limit i 0) (bitsSet steps (getD scope i 0)) k (given .searchable .rule-ok i l .fits);
+      }
+
+  module _ (may : List ℕ) {crowd reach : List ℕ} (w : Tabled people levels class may crowd reach) where
+    tables : TablesOf (jobIn steps people levels class rules kind level limit scope) levels may crowd reach
+    tables =
+        tables-of w (jobIn steps people levels class rules kind level limit scope) refl
+        (record {
+          depth = refl;
+          each = λ q u a b l. refl;
+          refining = given .searchable .refining;
+          few = given .few-people;
+          leads = given .leaders;
+        })
+
+    -- the classes of a valid plan have somebody for the steps
+    manned : (π : ℕ → ℕ) → Valid (jobIn steps people levels class rules kind level limit scope) (mayIn may) π → (q i : ℕ) → 1 ≤ q → q ≤ levels
+        → Manned steps reach (q - 1) (getD scope i 0) (λ s. classIn class q (π s))
+    manned π ok q i from to s l h =
+        let e : suc (q - 1) ≡ q = omega arith in (
+          omega (
+            arith,
+            given .leaders q (π s) from to (ok .within s l),
+            leader-le (jobIn steps people levels class rules kind level limit scope) q (π s),
+            ok .within s l,
+            given .few-people,
+          ),
+          subst (λ (x : ℕ). hasBit (getD reach ((q - 1) * 12 + s) 0) (classIn class x (π s)) ≡ true) e
+              (tables .reach-has (q - 1) s (π s) (omega arith) (omega (arith, given .few-steps)) (ok .within s l) (ok .authorised s l)),
+        )
+
+    -- a lower limit that is not reached
+    pub existence-short : (plan : List ℕ) → length plan ≡ 12 → (r : Bool) → Limits steps rules kind level limit scope reach r → not r ≡ true
+        → Existence (jobIn steps people levels class rules kind level limit scope) (mayIn may) plan plan false
+    existence-short plan e r limits f =
+        let u = limits .unreached (not-true r f) in
+        let i = u .rule in
+        let ok = given .searchable .rule-ok i (u .below) in
+        record {
+          sized = e;
+          won = λ t. true-false refl (sym t);
+          lost = λ t x.
+              u .short (λ s. classIn class (getD level i 0) (x .0 s)) (manned (x .0) (x .1) (getD level i 0) i (ok .from) (ok .to))
+              (lower-asks (getD kind i 0) (getD limit i 0) (distinct steps (hasBit (getD scope i 0)) (λ s. classIn class (getD level i 0) (x .0 s)))
+              (u .lower) (x .1 .eligible i (u .below)));
+          kept = λ t. refl;
+        }
