@@ -1,4 +1,5 @@
 -- The same classes under other numbers: the same plans are valid, and the first one is the same. Assumes nothing.
+use mathlib.Core.Bool.{Bool}
 use mathlib.Core.List.{List}
 use mathlib.Core.Path.{_≡_, sym, subst}
 use Prim.Native.Nat.{ℕ, _<_}
@@ -10,7 +11,7 @@ use Rattle.pattern.specs.Realize.{leader}
 use Rattle.pattern.proofs.Leader.{leader-below}
 use Rattle.pattern.specs.Tables.{classIn, mayIn, jobIn}
 use Rattle.levels.specs.Given.{Given}
-use Rattle.narrow.specs.Domains.{Small, Mated, SameClasses, Massed}
+use Rattle.narrow.specs.Domains.{Small, Mated, SameClasses, Massed, Narrowed}
 use Rattle.backtrack.specs.Trial.{Trial}
 use Rattle.backtrack.specs.declared.Tried.{Tried}
 use Rattle.backtrack.specs.declared.Tried.the-variants.{Found, Unsatisfiable, Tired}
@@ -75,8 +76,17 @@ module _ (steps people levels rules : ℕ) (class kind level limit scope : List 
             eligible = λ i l. subst (Asks (named .rule i .kind) (named .rule i .limit)) (sym (distinct-alike steps (named .rule i .scope) _ _ (alike i l π (v .within)))) (v .eligible i l);
           }
 
-      pub trial-named : (plan : List ℕ) (o : Tried) → Trial massed dom plan o → Trial named dom plan o
+      pub trial-named : (ordered : Bool) (plan : List ℕ) (o : Tried) → Trial ordered massed dom plan o → Trial ordered named dom plan o
       unfolding Trial
-      trial-named plan Found t = record { valid = valid-forth _ (t .valid); first = λ σ v e. t .first σ (valid-back σ v) e }
-      trial-named plan Unsatisfiable t = λ (π, v). t (π, valid-back π v)
-      trial-named plan Tired t = tt
+      trial-named ordered plan Found t =
+          record { valid = valid-forth _ (t .valid); first = λ wanted σ v e. t .first wanted σ (valid-back σ v) e }
+      trial-named ordered plan Unsatisfiable t = λ (π, v). t (π, valid-back π v)
+      trial-named ordered plan Tired t = tt
+
+    pub narrowed-named : (dom dom′ : List ℕ) (r : Bool) → Narrowed massed dom dom′ r → Narrowed named dom dom′ r
+    narrowed-named dom dom′ r n =
+        record {
+          fewer = n .fewer;
+          kept = λ e π v. valid-forth dom′ π (n .kept e π (valid-back dom π v));
+          lost = λ e π v. n .lost e π (valid-back dom π v);
+        }

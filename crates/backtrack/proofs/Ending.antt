@@ -13,6 +13,7 @@ use Rattle.bits.specs.Below.{count}
 use Rattle.bits.specs.Word.{hasBit}
 use Rattle.bits.proofs.Below.{by-cases, below-suc, true-false}
 use Rattle.bits.proofs.Counting.{count-le}
+use Rattle.bits.proofs.SetLaws.{empty-lacks}
 use Rattle.workflow.specs.Problem.{Job, Rule, RuleOk, Plan, Valid, distinct, classCount}
 use Rattle.workflow.specs.Interval.{lowest, highest}
 use Rattle.workflow.proofs.Rules.{met-interval}
@@ -126,7 +127,7 @@ pub judged-all : (j : Job) (n : ℕ) (dom : List ℕ) → n ≡ j .rules → Jud
 judged-all j n dom e w = subst (λ (k : ℕ). Judged j k dom Found) e w
 
 -- what the tests say of the plan taken
-pub ended : (j : Job) (dom plan : List ℕ) → Alone (j .steps) dom → Taken (j .people) (j .steps) dom plan → (o : Tried) → Judged j (j .rules) dom o → Trial j dom plan o
+pub ended : (j : Job) (dom plan : List ℕ) → Alone (j .steps) 0 dom → Taken (j .people) (j .steps) dom plan → (o : Tried) → Judged j (j .rules) dom o → Trial true j dom plan o
 unfolding Judged Trial
 ended j dom plan a t Found w =
     record {
@@ -135,8 +136,8 @@ ended j dom plan a t Found w =
         authorised = t .among;
         eligible = λ i l. w i l (planIn plan) (record { within = t .within; among = t .among });
       };
-      first = λ σ v e.
-          let x : σ (e .at) ≡ planIn plan (e .at) = a .one (e .at) _ _ (e .below) (v .authorised (e .at) (e .below)) (t .among (e .at) (e .below)) in
+      first = λ wanted σ v e.
+          let x : σ (e .at) ≡ planIn plan (e .at) = a .one (e .at) _ _ (e .below) (empty-lacks (e .at)) (v .authorised (e .at) (e .below)) (t .among (e .at) (e .below)) in
           let y : σ (e .at) < planIn plan (e .at) = e .less in
           omega arith;
     }

@@ -2,7 +2,7 @@
 -- nothing.
 use mathlib.Core.Bool.{Bool, true, false, not}
 use mathlib.Core.List.{List}
-use mathlib.Core.Path.{_≡_, sym, subst, ap, _∙_}
+use mathlib.Core.Path.{_≡_, refl, sym, subst, ap, _∙_}
 use Prim.Native.Nat.{ℕ, _+_, _*_, _%_, _^_, _≤_, _<_}
 use native.Mathlib.Omega.{arith}
 use native.Mathlib.Nat.{one-mul}
@@ -19,7 +19,7 @@ use Rattle.workflow.specs.Problem.{Job, Plan, Valid}
 use Rattle.workflow.specs.First.{Earlier}
 use Rattle.pattern.specs.Tables.{mayIn, planIn}
 use Rattle.narrow.specs.Domains.{Fewer, Narrowed}
-use Rattle.backtrack.specs.Trial.{pinned, Alone, Trial}
+use Rattle.backtrack.specs.Trial.{pinned, Alone, Others, Trial}
 use Rattle.backtrack.specs.declared.Tried.{Tried}
 use Rattle.backtrack.specs.declared.Tried.the-variants.{Found, Unsatisfiable, Tired}
 
@@ -29,20 +29,32 @@ part-valid j dom dom′ f π v =
     record { within = v .within; authorised = λ s l. f .part s (π s) (v .authorised s l); eligible = v .eligible }
 
 -- what is found within narrowed domains is found within the whole
-pub narrowed-trial : (j : Job) (dom dom′ plan : List ℕ) (r : Bool) → Narrowed j dom dom′ r → r ≡ true → (o : Tried) → Trial j dom′ plan o → Trial j dom plan o
+pub narrowed-trial : (ordered : Bool) (j : Job) (dom dom′ plan : List ℕ) (r : Bool) → Narrowed j dom dom′ r → r ≡ true → (o : Tried)
+    → Trial ordered j dom′ plan o → Trial ordered j dom plan o
 unfolding Trial
-narrowed-trial j dom dom′ plan r n e Found t =
-    record { valid = part-valid j dom dom′ (n .fewer) (planIn plan) (t .valid); first = λ σ v x. t .first σ (n .kept e σ v) x }
-narrowed-trial j dom dom′ plan r n e Unsatisfiable t = λ (π, v). t (π, n .kept e π v)
-narrowed-trial j dom dom′ plan r n e Tired t = tt
+narrowed-trial ordered j dom dom′ plan r n e Found t =
+    record {
+      valid = part-valid j dom dom′ (n .fewer) (planIn plan) (t .valid);
+      first = λ wanted σ v x. t .first wanted σ (n .kept e σ v) x;
+    }
+narrowed-trial ordered j dom dom′ plan r n e Unsatisfiable t = λ (π, v). t (π, n .kept e π v)
+narrowed-trial ordered j dom dom′ plan r n e Tired t = tt
 
-pub narrowed-lost : (j : Job) (dom dom′ plan : List ℕ) (r : Bool) → Narrowed j dom dom′ r → r ≡ false → Trial j dom plan Unsatisfiable
+pub narrowed-lost : (ordered : Bool) (j : Job) (dom dom′ plan : List ℕ) (r : Bool) → Narrowed j dom dom′ r → r ≡ false
+    → Trial ordered j dom plan Unsatisfiable
 unfolding Trial
-narrowed-lost j dom dom′ plan r n e (π, v) = n .lost e π v
+narrowed-lost ordered j dom dom′ plan r n e (π, v) = n .lost e π v
 
-pub trial-tired : (j : Job) (dom plan : List ℕ) → Trial j dom plan Tired
+pub trial-tired : (ordered : Bool) (j : Job) (dom plan : List ℕ) → Trial ordered j dom plan Tired
 unfolding Trial
-trial-tired j dom plan = tt
+trial-tired ordered j dom plan = tt
+
+-- the first plan is a plan
+pub trial-any : (ordered : Bool) (j : Job) (dom plan : List ℕ) (o : Tried) → Trial true j dom plan o → Trial ordered j dom plan o
+unfolding Trial
+trial-any ordered j dom plan Found t = record { valid = t .valid; first = λ wanted. t .first refl }
+trial-any ordered j dom plan Unsatisfiable t = t
+trial-any ordered j dom plan Tired t = tt
 
 -- one bit of a word
 pub own-bit : (n : ℕ) → n < 64 → (p : ℕ) → hasBit (1 * 2 ^ n % 18446744073709551616) p ≡ eqb p n
@@ -56,16 +68,17 @@ module _ (dom : List ℕ) (sized : length dom ≡ 12) (s p : ℕ) (below : s < 1
   pinned-other t n x = ap (λ (m : ℕ). hasBit m x) (getD-set-other dom s t _ 0 n)
 
   -- the step is one more with one person
-  pub pinned-alone : Alone s dom → (dom′ : List ℕ) → Fewer (pinned dom s p) dom′ → Alone (s + 1) dom′
-  pinned-alone a dom′ f =
+  pub pinned-alone : (steps rest : ℕ) → Others steps rest s dom → (dom′ : List ℕ) → Fewer (pinned dom s p) dom′ → Alone steps rest dom′
+  pinned-alone steps rest a dom′ f =
       record {
-        one = λ t x y l h k.
+        below = a .below;
+        one = λ t x y l o h k.
             by-cases (eqb t s)
             (λ e. own x (subst (λ (u : ℕ). mayIn dom′ u x ≡ true) (eqb-true t s e) h)
             ∙ sym (own y (subst (λ (u : ℕ). mayIn dom′ u y ≡ true) (eqb-true t s e) k)))
             (λ e.
             let n = eqb-false t s e in
-            a .one t x y (omega arith) (sym (pinned-other t n x) ∙ f .part t x h) (sym (pinned-other t n y) ∙ f .part t y k));
+            a .one t x y l n o (sym (pinned-other t n x) ∙ f .part t x h) (sym (pinned-other t n y) ∙ f .part t y k));
       }
     where
       own : (x : ℕ) → mayIn dom′ s x ≡ true → x ≡ p
@@ -83,6 +96,10 @@ module _ (dom : List ℕ) (sized : length dom ≡ 12) (s p : ℕ) (below : s < 1
         eligible = v .eligible;
       }
 
+-- each step before s has one person at most
+abbrev pub Before : ℕ → List ℕ → Type 0
+Before s dom = (t p p′ : ℕ) → t < s → mayIn dom t p ≡ true → mayIn dom t p′ ≡ true → p ≡ p′
+
 -- the people of `left` are still to be tried at step s: every plan has one of them there
 pub record Untried (j : Job) (s : ℕ) (dom plan : List ℕ) (left : ℕ) : Type 0 where
   pub sized : length plan ≡ 12
@@ -92,16 +109,17 @@ pub record Untried (j : Job) (s : ℕ) (dom plan : List ℕ) (left : ℕ) : Type
 pub untried-start : (j : Job) (s : ℕ) (dom plan : List ℕ) → s < j .steps → length plan ≡ 12 → Untried j s dom plan (getD dom s 0)
 untried-start j s dom plan l e = record { sized = e; part = λ p h. h; all = λ π v. v .authorised s l }
 
-pub untried-none : (j : Job) (s : ℕ) (dom plan : List ℕ) (left : ℕ) → Untried j s dom plan left → left ≡ 0 → Trial j dom plan Unsatisfiable
+pub untried-none : (j : Job) (s : ℕ) (dom plan : List ℕ) (left : ℕ) → Untried j s dom plan left → left ≡ 0 → (ordered : Bool) → Trial ordered j dom plan Unsatisfiable
 unfolding Trial
-untried-none j s dom plan left u e (π, v) = true-false (u .all π v) (zero-empty left e (π s))
+untried-none j s dom plan left u e ordered (π, v) = true-false (u .all π v) (zero-empty left e (π s))
 
 module _ (j : Job) (s : ℕ) (dom : List ℕ) (sized : length dom ≡ 12) (below : s < j .steps) (few : j .steps ≤ 12) (plan : List ℕ)
     (left p : ℕ) (u : Untried j s dom plan left) (person : p < 64) (low : Lowest left p) where
   -- the plans with p at s have failed
-  pub untried-next : (plan′ : List ℕ) → length plan′ ≡ 12 → (left′ : ℕ) → Removed left p left′ → Trial j (pinned dom s p) plan′ Unsatisfiable → Untried j s dom plan′ left′
+  pub untried-next : (ordered : Bool) (plan′ : List ℕ) → length plan′ ≡ 12 → (left′ : ℕ) → Removed left p left′
+      → Trial ordered j (pinned dom s p) plan′ Unsatisfiable → Untried j s dom plan′ left′
   unfolding Trial
-  untried-next plan′ e left′ gone fails =
+  untried-next ordered plan′ e left′ gone fails =
       record {
         sized = e;
         part = λ x h. u .part x (removed-was gone x h);
@@ -111,10 +129,11 @@ module _ (j : Job) (s : ℕ) (dom : List ℕ) (sized : length dom ≡ 12) (below
             (λ x. removed-other gone (π s) (eqb-false (π s) p x) ∙ u .all π v);
       }
 
-  -- the first plan with p at s is the first of all
-  pub untried-found : (plan′ : List ℕ) → Alone s dom → Trial j (pinned dom s p) plan′ Found → Trial j dom plan′ Found
+  -- a plan with p at s is a plan; the first of them is the first of all, where the steps before s have one person at most
+  pub untried-found : (ordered : Bool) (plan′ : List ℕ) → (ordered ≡ true → Before s dom) → Trial ordered j (pinned dom s p) plan′ Found
+      → Trial ordered j dom plan′ Found
   unfolding Trial
-  untried-found plan′ a w =
+  untried-found ordered plan′ alone w =
       record {
         valid = record {
           within = w .valid .within;
@@ -134,10 +153,10 @@ module _ (j : Job) (s : ℕ) (dom : List ℕ) (sized : length dom ≡ 12) (below
       same : (t : ℕ) → t < s → mayIn dom t (planIn plan′ t) ≡ true
       same t l = sym (pinned-other dom sized s p (omega arith) person t (omega arith) (planIn plan′ t)) ∙ w .valid .authorised t (omega arith)
 
-      none : (σ : Plan) → Valid j (mayIn dom) σ → Earlier (j .steps) σ (planIn plan′) → ⊥
-      none σ v e =
+      none : ordered ≡ true → (σ : Plan) → Valid j (mayIn dom) σ → Earlier (j .steps) σ (planIn plan′) → ⊥
+      none wanted σ v e =
           by-cases (eqb (σ s) p)
-          (λ x. w .first σ (pinned-valid dom sized s p (omega arith) person j σ v (eqb-true (σ s) p x)) e)
+          (λ x. w .first wanted σ (pinned-valid dom sized s p (omega arith) person j σ v (eqb-true (σ s) p x)) e)
           (λ x.
           by-cases (eqb (e .at) s)
           (λ y.
@@ -147,7 +166,7 @@ module _ (j : Job) (s : ℕ) (dom : List ℕ) (sized : length dom ≡ 12) (below
           by-cases (ltb (e .at) s)
           (λ z.
           let l : e .at < s = ltb-true _ _ z in
-          let q : σ (e .at) ≡ planIn plan′ (e .at) = a .one (e .at) _ _ l (v .authorised (e .at) (e .below)) (same (e .at) l) in
+          let q : σ (e .at) ≡ planIn plan′ (e .at) = alone wanted (e .at) _ _ l (v .authorised (e .at) (e .below)) (same (e .at) l) in
           let m : σ (e .at) < planIn plan′ (e .at) = e .less in
           omega arith)
           (λ z.
@@ -157,6 +176,3 @@ module _ (j : Job) (s : ℕ) (dom : List ℕ) (sized : length dom ≡ 12) (below
 
 pub pinned-sized : (dom : List ℕ) (s p : ℕ) → length dom ≡ 12 → length (pinned dom s p) ≡ 12
 pinned-sized dom s p e = length-set dom s _ ∙ e
-
-pub alone-fewer : (s t : ℕ) (dom : List ℕ) → t ≤ s → Alone s dom → Alone t dom
-alone-fewer s t dom l a = record { one = λ u p p′ m. a .one u p p′ (omega arith) }

@@ -1,3 +1,4 @@
 pub mod Extending
 pub mod Ending
 pub mod Classes
+pub mod Ordering

@@ -4,8 +4,9 @@ use mathlib.Core.List.{List}
 use mathlib.Core.Path.{_≡_}
 use Prim.Native.Nat.{ℕ, _*_, _%_, _^_, _<_}
 use lib.ListN.{length, set}
-use Rattle.workflow.specs.Problem.{Job, Plan, Met, Valid, Satisfiable}
-use Rattle.workflow.specs.First.{FirstValid}
+use Rattle.bits.specs.Word.{hasBit}
+use Rattle.workflow.specs.Problem.{Job, May, Plan, Met, Valid, Satisfiable}
+use Rattle.workflow.specs.First.{Earlier}
 use Rattle.pattern.specs.Tables.{mayIn, planIn}
 use Rattle.narrow.specs.Domains.{Takes}
 use Rattle.backtrack.specs.declared.Tried.{Tried}
@@ -27,9 +28,15 @@ JudgedRule j i dom Tired = Unit {0}
 abbrev pub pinned : List ℕ → ℕ → ℕ → List ℕ
 pinned dom s p = set dom s (1 * 2 ^ p % 18446744073709551616)
 
--- each step before s has one person at most
-pub record Alone (s : ℕ) (dom : List ℕ) : Type 0 where
-  pub one : (t p p′ : ℕ) → t < s → mayIn dom t p ≡ true → mayIn dom t p′ ≡ true → p ≡ p′
+-- each step but those of `rest` has one person at most
+pub record Alone (steps rest : ℕ) (dom : List ℕ) : Type 0 where
+  pub below : (t : ℕ) → hasBit rest t ≡ true → t < steps
+  pub one : (t p p′ : ℕ) → t < steps → hasBit rest t ≡ false → mayIn dom t p ≡ true → mayIn dom t p′ ≡ true → p ≡ p′
+
+-- each step but s and those of `rest` has one person at most
+pub record Others (steps rest s : ℕ) (dom : List ℕ) : Type 0 where
+  pub below : (t : ℕ) → hasBit rest t ≡ true → t < steps
+  pub one : (t p p′ : ℕ) → t < steps → (t ≡ s → ⊥) → hasBit rest t ≡ false → mayIn dom t p ≡ true → mayIn dom t p′ ≡ true → p ≡ p′
 
 -- the plan takes the first of each domain of the steps before n
 pub record Taken (people n : ℕ) (dom plan : List ℕ) : Type 0 where
@@ -37,11 +44,16 @@ pub record Taken (people n : ℕ) (dom plan : List ℕ) : Type 0 where
   pub within : (s : ℕ) → s < n → planIn plan s < people
   pub among : (s : ℕ) → s < n → mayIn dom s (planIn plan s) ≡ true
 
+-- a valid plan, and in order the first
+pub record Discovery (ordered : Bool) (j : Job) (may : May) (π : Plan) : Type 0 where
+  pub valid : Valid j may π
+  pub first : ordered ≡ true → (σ : Plan) → Valid j may σ → Earlier (j .steps) σ π → ⊥
+
 -- what a search within domains comes to
-unfoldable pub Trial : Job → List ℕ → List ℕ → Tried → Type 0
-Trial j dom plan Found = FirstValid j (mayIn dom) (planIn plan)
-Trial j dom plan Unsatisfiable = Satisfiable j (mayIn dom) → ⊥
-Trial j dom plan Tired = Unit {0}
+unfoldable pub Trial : Bool → Job → List ℕ → List ℕ → Tried → Type 0
+Trial ordered j dom plan Found = Discovery ordered j (mayIn dom) (planIn plan)
+Trial ordered j dom plan Unsatisfiable = Satisfiable j (mayIn dom) → ⊥
+Trial ordered j dom plan Tired = Unit {0}
 
 -- the same, if so it is said
 abbrev pub TakenIf : Bool → ℕ → ℕ → List ℕ → List ℕ → Type 0

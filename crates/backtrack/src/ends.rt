@@ -5,6 +5,7 @@ use eligible::least;
 use eligible::most;
 use levels::Size;
 use narrow::fixed::fixed;
+ghost use mathlib.Core.Bool.{true};
 ghost use mathlib.Core.Path.{_≡_};
 ghost use Prim.Native.Nat.{_<_, _≤_};
 ghost use lib.ListN.{length};
@@ -116,8 +117,8 @@ pub fn finish(
     plan: &mut [u8; 12],
 ) -> Tried
     requires { ⌜ Massed (size .steps) (size .people) (size .levels) (size .rules) (now mates) (now kind) (now level) (now limit) (now scope)
-        × (length (now dom) ≡ 12) × (length (now plan) ≡ 12) × Alone (size .steps) (now dom) ⌝ }
-    ensures { λ r. ⌜ Trial (jobIn (size .steps) (size .people) (size .levels) (now (mates .entry)) (size .rules) (now (kind .entry)) (now (level .entry)) (now (limit .entry)) (now (scope .entry)))
+        × (length (now dom) ≡ 12) × (length (now plan) ≡ 12) × Alone (size .steps) 0 (now dom) ⌝ }
+    ensures { λ r. ⌜ Trial true (jobIn (size .steps) (size .people) (size .levels) (now (mates .entry)) (size .rules) (now (kind .entry)) (now (level .entry)) (now (limit .entry)) (now (scope .entry)))
         (now (dom .entry)) (now (plan .exit)) r × (length (now (plan .exit)) ≡ 12) ⌝ }
 {
     if !take(size.steps, size.people, dom, plan) {

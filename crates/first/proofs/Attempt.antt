@@ -1,7 +1,7 @@
 -- What the search over people says of the first plan. Assumes nothing.
 use mathlib.Core.Bool.{true, false}
 use mathlib.Core.List.{List}
-use mathlib.Core.Path.{_≡_}
+use mathlib.Core.Path.{_≡_, refl}
 use Prim.Native.Nat.{ℕ}
 use Rattle.workflow.specs.Problem.{Job}
 use Rattle.workflow.specs.First.{firstPlan}
@@ -11,10 +11,10 @@ use Rattle.backtrack.specs.Trial.{Trial}
 use Rattle.backtrack.specs.declared.Tried.the-variants.{Found, Unsatisfiable}
 use Rattle.first.specs.Settle.{answer}
 
-pub first-found : (j : Job) (may plan : List ℕ) → Trial j may plan Found → firstPlan j (mayIn may) ≡ answer (j .steps) true plan
+pub first-found : (j : Job) (may plan : List ℕ) → Trial true j may plan Found → firstPlan j (mayIn may) ≡ answer (j .steps) true plan
 unfolding Trial
-first-found j may plan t = first-plan-given j (mayIn may) (planIn plan) t
+first-found j may plan t = first-plan-given j (mayIn may) (planIn plan) (record { valid = t .valid; first = t .first refl })
 
-pub first-absent : (j : Job) (may plan : List ℕ) → Trial j may plan Unsatisfiable → firstPlan j (mayIn may) ≡ answer (j .steps) false plan
+pub first-absent : (j : Job) (may plan : List ℕ) → Trial true j may plan Unsatisfiable → firstPlan j (mayIn may) ≡ answer (j .steps) false plan
 unfolding Trial
 first-absent j may plan t = no-valid-plan j (mayIn may) (λ π v. t (π, v))

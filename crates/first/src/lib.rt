@@ -5,7 +5,6 @@ use backtrack::attempt;
 use levels::Size;
 use search::choose::weights;
 use search::exists::exists;
-use search::thorough::thorough;
 ghost use mathlib.Core.Path.{_≡_};
 ghost use Prim.Native.Nat.{_+_, _<_};
 ghost use lib.ListN.{length};
@@ -15,7 +14,7 @@ ghost use Rattle.levels.specs.Given.{Given};
 ghost use Rattle.first.specs.Settle.{Standing, Bettering, Settled, answer};
 
 // How many rules the search over people may look at.
-const EFFORT: u32 = 500;
+const EFFORT: u32 = 2000;
 
 // An answer: whether there is a valid plan, and then the first one, a person for each step.
 pub struct Found {
@@ -96,7 +95,7 @@ fn from_any(
 {
     let mut weight = weights(size.steps, size.rules, scope);
     let mut plan = [0u8; 12];
-    if !thorough(
+    if !exists(
         size,
         class,
         kind,
@@ -158,6 +157,7 @@ pub fn first_plan(
         limit,
         scope,
         may,
+        true,
         EFFORT,
         &mut plan,
     );

@@ -3,6 +3,7 @@ pub mod Classes
 pub mod Settling
 pub mod Reach
 pub mod Spreading
+pub mod Parting
 pub mod Ruling
 pub mod Restricting
 pub mod Passing

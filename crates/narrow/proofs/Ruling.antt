@@ -1,5 +1,6 @@
 -- What a rule leaves to its open steps: at the upper end of its interval only people of the classes that are had, at the lower end only
--- others, and where it has one class only people who share one with somebody of each step. Assumes nothing.
+-- others, where it has one class only people who share one with somebody of each step, and where the steps that are apart reach the upper
+-- end only people of their classes and of those that are had. Assumes nothing.
 use mathlib.Core.Bool.{Bool, true, false, not, _&&_, _||_, or-false, and-true}
 use mathlib.Core.List.{List}
 use mathlib.Core.Path.{_≡_, refl, sym, subst, ap, _∙_}
@@ -23,10 +24,12 @@ use Rattle.pattern.proofs.Same.{distinct-scope-cong}
 use Rattle.narrow.specs.Domains.{Takes, Revised}
 use Rattle.narrow.specs.Fixing.{settled, Fixing}
 use Rattle.narrow.specs.Narrowing.{Joins, Common, Spared, Restricted}
+use Rattle.narrow.specs.Parting.{Apart, Limited}
 use Rattle.narrow.specs.Spreading.{Spread, Short}
 use Rattle.narrow.proofs.Masks.{or-cases, or-left, or-right, bits-below, ones-count}
 use Rattle.narrow.proofs.Settling.{settled-of, settled-scope, settled-narrow, bound-of}
 use Rattle.narrow.proofs.Spreading.{count-spread}
+use Rattle.narrow.proofs.Parting.{classes-from}
 use Rattle.narrow.proofs.Restricting.{fewer-same}
 
 -- steps of a scope with one class have the same
@@ -90,21 +93,27 @@ module _ (steps people : ℕ) (c : ℕ → ℕ) (scope : ℕ) (dom : List ℕ) (
           others = λ u d. sym (ap (_||_ (settled scope wide 0 u)) (ne-eqb u t d) ∙ or-false (settled scope wide 0 u));
         }
 
+    in-scope : (u : ℕ) → settled scope wide 0 u || eqb u t ≡ true → hasBit scope u ≡ true
+    in-scope u i =
+        or-cases (settled scope wide 0 u) (eqb u t) i (λ x. settled-scope scope wide 0 u x)
+        (λ x. subst (λ (z : ℕ). hasBit scope z ≡ true) (sym (eqb-true u t x)) (f .part t is-open .1))
+
+    -- with somebody of no class that is had, t brings one more
+    brings : hasBit used (π t) ≡ false → distinct steps (λ u. settled scope wide 0 u || eqb u t) (λ u. c (π u)) ≡ suc (count steps (hasBit heads))
+    brings h =
+        let b = bound-of steps (λ u. c (π u)) in
+        distinct-new steps (b .0) (settled scope wide 0) (λ u. settled scope wide 0 u || eqb u t) (λ u. c (π u)) t adds (λ u l i. b .1 u l)
+        (λ u l i e. true-false (f .classes-of π takes (π t) u (takes .within t below) l i (sym e)) h)
+        ∙ ap suc (sym (f .number π takes))
+
     -- at the upper end, t joins a class that is had
     pub joins-used : distinct steps (hasBit scope) (λ u. c (π u)) ≤ count steps (hasBit heads) → hasBit used (π t) ≡ true
     joins-used most =
         by-cases (hasBit used (π t)) (λ h. h)
         (λ h.
-        let b = bound-of steps (λ u. c (π u)) in
-        let g : count steps (hasBit heads) ≡ distinct steps (settled scope wide 0) (λ u. c (π u)) = f .number π takes in
-        let more : distinct steps (λ u. settled scope wide 0 u || eqb u t) (λ u. c (π u)) ≡ suc (distinct steps (settled scope wide 0) (λ u. c (π u)))
-        = distinct-new steps (b .0) (settled scope wide 0) (λ u. settled scope wide 0 u || eqb u t) (λ u. c (π u)) t adds (λ u l i. b .1 u l)
-        (λ u l i e. true-false (f .classes-of π takes (π t) u (takes .within t below) l i (sym e)) h) in
         let le : distinct steps (λ u. settled scope wide 0 u || eqb u t) (λ u. c (π u)) ≤ distinct steps (hasBit scope) (λ u. c (π u))
-        = distinct-scope-mono steps (λ u. c (π u)) (λ u. settled scope wide 0 u || eqb u t) (hasBit scope)
-        (λ u l i. or-cases (settled scope wide 0 u) (eqb u t) i (λ x. settled-scope scope wide 0 u x)
-        (λ x. subst (λ (z : ℕ). hasBit scope z ≡ true) (sym (eqb-true u t x)) (f .part t is-open .1))) in
-        absurd (omega arith))
+        = distinct-scope-mono steps (λ u. c (π u)) (λ u. settled scope wide 0 u || eqb u t) (hasBit scope) (λ u l i. in-scope u i) in
+        absurd (omega (arith, brings h)))
 
     -- at the lower end, it joins none
     pub avoids-used : count steps (hasBit heads) + count steps (hasBit wide) ≤ distinct steps (hasBit scope) (λ u. c (π u)) → hasBit used (π t) ≡ false
@@ -130,6 +139,45 @@ module _ (steps people : ℕ) (c : ℕ → ℕ) (scope : ℕ) (dom : List ℕ) (
         is-open
         (λ u l d. ap (λ (z : Bool). hasBit wide u && not z) (ne-eqb u t d) ∙ and-true (hasBit wide u)) in
         omega arith)
+
+  -- open steps that are apart
+  module _ (all parts : ℕ) (w : Apart people c wide used dom all parts) where
+    part-of : (s : ℕ) → hasBit parts s ≡ true → (s < steps) × (hasBit scope s ≡ true)
+    part-of s h = let o = f .part s (w .among s h) in (o .0, o .1)
+
+    -- no settled step has the class of one of them
+    unlike-settled : (s u : ℕ) → s < steps → u < steps → hasBit parts s ≡ true → settled scope wide 0 u ≡ true → c (π u) ≡ c (π s) → ⊥
+    unlike-settled s u l m h i e =
+        true-false (f .classes-of π takes (π s) u (takes .within s l) m i (sym e)) (w .new s (π s) h (takes .within s l) (takes .among s l))
+
+    unlike-each : (s t : ℕ) → s < steps → t < steps → hasBit parts s ≡ true → hasBit parts t ≡ true → (s ≡ t → ⊥) → c (π s) ≡ c (π t) → ⊥
+    unlike-each s t l m h k d e = w .differ s t (π s) (π t) h k d (takes .within s l) (takes .within t m) (takes .among s l) (takes .among t m) e
+
+    -- they have a class each
+    pub count-apart : count steps (hasBit heads) + count steps (hasBit parts) ≤ distinct steps (hasBit scope) (λ u. c (π u))
+    count-apart =
+        let a : count steps (hasBit heads) ≡ distinct steps (settled scope wide 0) (λ u. c (π u)) = f .number π takes in
+        let b : distinct steps (settled scope wide 0) (λ u. c (π u)) + count steps (hasBit parts) ≤ distinct steps (hasBit scope) (λ u. c (π u))
+        = classes-from steps (hasBit scope) (settled scope wide 0) (hasBit parts) (λ u. c (π u)) (λ u l i. settled-scope scope wide 0 u i)
+        (λ s l h. part-of s h .1) unlike-settled unlike-each in
+        omega arith
+
+    -- where these are all that there may be, an open step joins one of them or a class that is had
+    pub joins-all : (t : ℕ) → hasBit wide t ≡ true → distinct steps (hasBit scope) (λ u. c (π u)) ≤ count steps (hasBit heads) + count steps (hasBit parts)
+        → hasBit all (π t) ≡ true
+    joins-all t is-open most =
+        by-cases (hasBit all (π t)) (λ h. h)
+        (λ h.
+        let le : distinct steps (λ u. settled scope wide 0 u || eqb u t) (λ u. c (π u)) + count steps (hasBit parts) ≤ distinct steps (hasBit scope) (λ u. c (π u))
+        = classes-from steps (hasBit scope) (λ u. settled scope wide 0 u || eqb u t) (hasBit parts) (λ u. c (π u)) (λ u l i. in-scope t is-open u i)
+        (λ s l k. part-of s k .1)
+        (λ s u l m k i e. or-cases (settled scope wide 0 u) (eqb u t) i (λ x. unlike-settled s u l m k x e)
+        (λ x. true-false
+        (w .reaches s k (π s) (π t) (takes .within s l) (takes .within t (below t is-open)) (takes .among s l) (empty-lacks (π s))
+        (sym e ∙ ap (λ (z : ℕ). c (π z)) (eqb-true u t x)))
+        h))
+        unlike-each in
+        absurd (omega (arith, brings t is-open (is-false _ (λ k. true-false (w .keeps (π t) k) h)))))
 
 -- a rule of a job, and what the domains settle of its count
 pub record Settled (j : Job) (r : Rule) (scope : ℕ) (dom : List ℕ) (used heads wide : ℕ) : Type 0 where
@@ -163,6 +211,12 @@ module _ {j : Job} {r : Rule} {scope : ℕ} {dom : List ℕ} {used heads wide : 
   pub wide-few : ones wide ≤ 12
   wide-few = omega (arith, w .small, wide-count, count-le (j .steps) (hasBit wide))
 
+  parts-count : (all parts : ℕ) → Apart (j .people) (j .class (r .level)) wide used dom all parts → ones parts ≡ count (j .steps) (hasBit parts)
+  parts-count all parts a =
+      let b : (s : ℕ) → hasBit parts s ≡ true → s < j .steps = λ s h. wide-below s (a .among s h) in
+      let z : parts < 2 ^ 12 = bits-below 12 parts (λ s h. omega (arith, w .small, b s h)) in
+      ones-count (j .steps) parts (omega (arith, w .small)) (omega arith) b
+
   module _ (π : Plan) (met : Met j r π) (takes : Takes (j .steps) (j .people) dom π) where
     counted : classCount j r π ≡ distinct (j .steps) (hasBit scope) (λ u. j .class (r .level) (π u))
     counted = distinct-scope-cong (j .steps) (r .scope) (hasBit scope) (λ u. j .class (r .level) (π u)) (λ u l. w .same u)
@@ -191,6 +245,17 @@ module _ {j : Job} {r : Rule} {scope : ℕ} {dom : List ℕ} {used heads wide : 
     at-least : (t : ℕ) → hasBit wide t ≡ true → ones heads + ones wide ≡ lowest (r .kind) (r .limit) → hasBit used (π t) ≡ false
     at-least t h e =
         avoids-used (j .steps) (j .people) (j .class (r .level)) scope dom used heads wide f π takes t h (omega (arith, heads-count, wide-count, from-least))
+
+    module _ (all parts : ℕ) (a : Apart (j .people) (j .class (r .level)) wide used dom all parts) where
+      from-apart : ones heads + ones parts ≤ distinct (j .steps) (hasBit scope) (λ u. j .class (r .level) (π u))
+      from-apart =
+          omega
+          (arith, heads-count, parts-count all parts a, count-apart (j .steps) (j .people) (j .class (r .level)) scope dom used heads wide f π takes all parts a)
+
+      at-limit : (t : ℕ) → hasBit wide t ≡ true → ones heads + ones parts ≡ highest (r .kind) (r .limit) (j .steps) → hasBit all (π t) ≡ true
+      at-limit t h e =
+          joins-all (j .steps) (j .people) (j .class (r .level)) scope dom used heads wide f π takes all parts a t h
+          (omega (arith, heads-count, parts-count all parts a, to-most))
 
     -- with one class, somebody of each open step is of the class of t
     at-one : (t : ℕ) → hasBit wide t ≡ true → highest (r .kind) (r .limit) (j .steps) ≡ 1
@@ -242,6 +307,14 @@ module _ {j : Job} {r : Rule} {scope : ℕ} {dom : List ℕ} {used heads wide : 
     with-common most e one common =
         by-people
         (λ π met takes t h. common (π t) (takes .within t (wide-below t h)) (λ s k _. at-one π met takes t h (omega arith) s k))
+
+    pub with-upper : (most : ℕ) → most ≡ highest (r .kind) (r .limit) (j .steps) → j .people ≤ 64
+        → Limited (j .people) (j .class (r .level)) wide used dom (ones heads) most crew → Revised j r dom dom′ failed × (changed < 4096)
+    with-upper most e few l =
+        by-people
+        (λ π met takes t h. l .has (π t) (omega (arith, takes .within t (wide-below t h)))
+        (omega (arith, from-apart π met takes (l .all) (l .heads) (l .apart), to-most π met takes))
+        (λ x. at-limit π met takes (l .all) (l .heads) (l .apart) t h (x ∙ e)))
 
     pub with-left : (least most : ℕ) → least ≡ lowest (r .kind) (r .limit) → most ≡ highest (r .kind) (r .limit) (j .steps) → j .people ≤ 64
         → Spared used (ones heads) (ones wide) least most crew → Revised j r dom dom′ failed × (changed < 4096)

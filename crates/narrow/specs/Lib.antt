@@ -1,4 +1,5 @@
 pub mod Domains
 pub mod Fixing
 pub mod Narrowing
+pub mod Parting
 pub mod Spreading

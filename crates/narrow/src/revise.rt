@@ -1,8 +1,9 @@
-// Domains narrowed by one rule: where its count is at the upper end, the open steps join the classes
-// that there are; where it is at the lower end, they avoid them.
+// Domains narrowed by one rule: where its count is at the upper end, or steps that are apart bring it
+// there, the open steps join the classes that there are; where it is at the lower end, they avoid them.
+use super::apart::apart;
+use super::apart::reach;
 use super::fixed::fixed;
 use super::spread::spread;
-use bits::set;
 use bits::small;
 use eligible::least;
 use eligible::most;
@@ -13,8 +14,8 @@ ghost use Prim.Native.Nat.{_<_, _≤_};
 ghost use lib.ListN.{length};
 ghost use Rattle.pattern.specs.Tables.{classIn, jobIn, ruleIn};
 ghost use Rattle.narrow.specs.Domains.{Mated, Massed, Revised};
-ghost use Rattle.narrow.specs.Fixing.{Reaching};
 ghost use Rattle.narrow.specs.Narrowing.{Common, Spared, Restricted};
+ghost use Rattle.narrow.specs.Parting.{Limited};
 ghost use Rattle.narrow.specs.Spreading.{Short};
 
 // All people.
@@ -24,22 +25,6 @@ const ALL: u64 = 0xffff_ffff_ffff_ffff;
 pub struct Revision {
     pub failed: bool,
     pub changed: u16,
-}
-
-// Everybody who shares a class with somebody of a domain.
-fn reach(people: usize, levels: usize, mates: &[u64; 192], level: usize, domain: u64) -> u64
-    requires { ⌜ (people ≤ 64) × (levels ≤ 3) × Mated people levels (now mates) × (1 ≤ level) × (level ≤ levels) ⌝ }
-    ensures { λ r. ⌜ Reaching people (classIn (now (mates .entry)) level) domain 0 r ⌝ }
-{
-    let mut found: u64 = 0;
-    let mut left = domain;
-    while left != 0 {
-        let p = set::lowest(left);
-        let crowd = mates[(level - 1) * 64 + p];
-        found = found | crowd;
-        left = set::without(left, p) & (crowd ^ ALL);
-    }
-    found
 }
 
 // Everybody who shares a class with somebody of the domain of each of these steps.
@@ -76,6 +61,33 @@ fn left_to(used: u64, groups: usize, wide: usize, lowest: usize, highest: usize)
         return used ^ ALL;
     }
     ALL
+}
+
+// The people among whom an upper limit leaves the open steps: those that are apart have a class each,
+// so that too many of them leave nobody, and just enough leave the classes that these have.
+fn upper(
+    people: usize,
+    levels: usize,
+    mates: &[u64; 192],
+    level: usize,
+    groups: usize,
+    highest: usize,
+    steps: u16,
+    used: u64,
+    dom: &[u64; 12],
+) -> u64
+    requires { ⌜ (people ≤ 64) × (levels ≤ 3) × Mated people levels (now mates) × (1 ≤ level) × (level ≤ levels) × (groups ≤ 16) × (steps < 4096) × (length (now dom) ≡ 12) ⌝ }
+    ensures { λ r. ⌜ Limited people (classIn (now (mates .entry)) level) steps used (now (dom .entry)) groups highest r ⌝ }
+{
+    let parts = apart(people, levels, mates, level, steps, used, dom);
+    let total = groups + u16::count_ones(parts.heads) as usize;
+    if total > highest {
+        return 0;
+    }
+    if total < highest {
+        return ALL;
+    }
+    parts.used
 }
 
 // Whether the open steps can only add too few classes to the `groups` that are had. It is asked of
@@ -201,6 +213,22 @@ pub fn revise(
     if groups == 0 {
         if highest == 1 {
             let people = common(size.people, size.levels, mates, at, so_far.wide, dom);
+            return restrict(so_far.wide, people, dom);
+        }
+    }
+    if groups < highest {
+        if highest < groups + open {
+            let people = upper(
+                size.people,
+                size.levels,
+                mates,
+                at,
+                groups,
+                highest,
+                so_far.wide,
+                so_far.used,
+                dom,
+            );
             return restrict(so_far.wide, people, dom);
         }
     }

@@ -2,6 +2,7 @@
 ghost use mathlib.Core.Path.{_≡_};
 ghost use Prim.Native.Nat.{_+_, _<_, _≤_};
 ghost use lib.ListN.{length};
+ghost use Rattle.bits.specs.Word.{longAt};
 use bits::byte_at;
 use crew::crew;
 use libc::STDIN_FILENO;
@@ -25,6 +26,7 @@ fn figure(number: usize) {
 // Four bytes, the low one first.
 fn long_at(bytes: &[u8], at: usize) -> usize
     requires { ⌜ at + 3 < length (now bytes) ⌝ }
+    ensures { λ r. ⌜ r ≡ longAt (now (bytes .entry)) at ⌝ }
 {
     byte_at(bytes, at)
         + 256 * byte_at(bytes, at + 1)

@@ -1,7 +1,7 @@
 -- The rules carried one by one. Assumes nothing.
 use mathlib.Core.Bool.{true}
 use mathlib.Core.List.{List}
-use mathlib.Core.Path.{_≡_, refl, sym, subst, ap, _∙_}
+use mathlib.Core.Path.{_≡_, refl, subst, ap, _∙_}
 use Prim.Native.Nat.{ℕ, zero, suc, _+_, _*_, _%_, _^_, _≤_, _<_}
 use native.Mathlib.Omega.{arith}
 use native.Mathlib.Nat.{mod-lt, one-mul}
@@ -10,63 +10,86 @@ use lib.Dec.{eqb, ltb, lit<}
 use lib.ListN.{length, getD, set, length-set}
 use lib.Pow.{pow-pos, shl-exact}
 use lib.Seq.{getD-set-same, getD-set-other}
-use borrow.Author.Tests.{eqb-true, eqb-false, ltb-true}
+use borrow.Author.Tests.{eqb-true, eqb-false, ltb-true, ltb-false}
 use Rattle.bits.specs.Below.{count}
 use Rattle.bits.specs.Word.{hasBit}
-use Rattle.bits.proofs.Below.{by-cases}
+use Rattle.bits.proofs.Below.{by-cases, true-false}
 use Rattle.bits.proofs.Counting.{count-cong, count-le}
 use Rattle.bits.proofs.Ones.{bit-mod, ones-bits}
 use Rattle.pattern.specs.Tables.{kindIn}
-use Rattle.relax.specs.Relaxed.{Carried, Bears, Became, Carries}
+use Rattle.relax.specs.Relaxed.{Carried, Bears, Follows, Carries}
 
--- at its own level every rule is carried
-pub bears-own : (kind level q : ℕ) → level ≡ q → Carried (kindIn kind) level q
-bears-own zero level q e = omega arith
-bears-own (suc zero) level q e = omega arith
-bears-own (suc (suc zero)) level q e = omega arith
-bears-own (suc (suc (suc zero))) level q e = omega arith
-bears-own (suc (suc (suc (suc k)))) level q e = omega arith
+-- at its own level every rule holds as it is
+pub bears-own : (kind level q : ℕ) → level ≡ q → Bears kind level q true
+bears-own kind level q e = record { carried = λ t. go kind; lost = λ t. true-false refl t }
+  where
+    go : (kind : ℕ) → Carried (kindIn kind) level q
+    go zero = omega arith
+    go (suc zero) = omega arith
+    go (suc (suc zero)) = omega arith
+    go (suc (suc (suc zero))) = omega arith
+    go (suc (suc (suc (suc k)))) = omega arith
 
--- lower limits go to finer levels
-pub bears-different : (kind level q : ℕ) → kind ≡ 2 → Bears kind level q (ltb level q)
-bears-different kind level q e t = subst (λ (k : ℕ). Carried (kindIn k) level q) (sym e) (let l = ltb-true level q t in omega arith)
-
-pub bears-least : (kind level q : ℕ) → 4 ≤ kind → Bears kind level q (ltb level q)
-bears-least zero level q l t = absurd (omega arith)
-bears-least (suc zero) level q l t = absurd (omega arith)
-bears-least (suc (suc zero)) level q l t = absurd (omega arith)
-bears-least (suc (suc (suc zero))) level q l t = absurd (omega arith)
-bears-least (suc (suc (suc (suc k)))) level q l t = let m = ltb-true level q t in omega arith
-
--- upper limits go to coarser ones
-pub bears-most : (kind level q : ℕ) → (kind ≡ 2 → ⊥) → kind < 4 → Bears kind level q (ltb q level)
-bears-most zero level q n l t = let m = ltb-true q level t in omega arith
-bears-most (suc zero) level q n l t = let m = ltb-true q level t in omega arith
-bears-most (suc (suc zero)) level q n l t = absurd (n refl)
-bears-most (suc (suc (suc zero))) level q n l t = let m = ltb-true q level t in omega arith
-bears-most (suc (suc (suc (suc k)))) level q n l t = absurd (omega arith)
-
-pub carries-none : (steps : ℕ) (kind level limit scope : List ℕ) (q : ℕ) (kind′ level′ limit′ : List ℕ)
-    → length kind′ ≡ 64 → length level′ ≡ 64 → length limit′ ≡ 64 → Carries steps 0 kind level limit scope q kind′ level′ limit′
-carries-none steps kind level limit scope q kind′ level′ limit′ a b c =
-    record { kinds = a; levels = b; limits = c; at = λ i l. absurd (omega arith); became = λ i l. absurd (omega arith) }
-
-pub carries-more : (steps n : ℕ) (kind level limit scope : List ℕ) (q : ℕ) (kind′ level′ limit′ : List ℕ) (k m : ℕ)
-    → Carries steps n kind level limit scope q kind′ level′ limit′ → n < 64
-    → Became steps q (getD kind n 0) (getD level n 0) (getD limit n 0) (getD scope n 0) k m
-    → Carries steps (n + 1) kind level limit scope q (set kind′ n k) (set level′ n q) (set limit′ n m)
-carries-more steps n kind level limit scope q kind′ level′ limit′ k m w l b =
+-- lower limits hold at finer levels
+bears-below : (kind level q : ℕ) → (level ≡ q → ⊥) → Carried (kindIn kind) level q ≡ (level ≤ q) → Bears kind level q (ltb level q)
+bears-below kind level q d e =
     record {
-      kinds = length-set kind′ n k ∙ w .kinds;
-      levels = length-set level′ n q ∙ w .levels;
-      limits = length-set limit′ n m ∙ w .limits;
-      at = λ i h. by-cases (eqb i n)
-          (λ e. rw (eqb-true i n e) (getD-set-same level′ n q 0 (omega (arith, w .levels))))
-          (λ e. let d = eqb-false i n e in getD-set-other level′ n i q 0 d ∙ w .at i (omega arith));
-      became = λ i h. by-cases (eqb i n)
-          (λ e. rw (eqb-true i n e, getD-set-same kind′ n k 0 (omega (arith, w .kinds)), getD-set-same limit′ n m 0 (omega (arith, w .limits))) b)
-          (λ e. let d = eqb-false i n e in rw (getD-set-other kind′ n i k 0 d, getD-set-other limit′ n i m 0 d) (w .became i (omega arith)));
+      carried = λ t. rw e (let l : level < q = ltb-true level q t in omega arith);
+      lost = λ t h. let l : q ≤ level = ltb-false level q t in let m : level ≤ q = rw e at h in omega arith;
     }
+
+pub bears-different : (kind level q : ℕ) → (level ≡ q → ⊥) → kind ≡ 2 → Bears kind level q (ltb level q)
+bears-different kind level q d e = bears-below kind level q d (rw e refl)
+
+pub bears-least : (kind level q : ℕ) → (level ≡ q → ⊥) → 4 ≤ kind → Bears kind level q (ltb level q)
+bears-least zero level q d l = absurd (omega arith)
+bears-least (suc zero) level q d l = absurd (omega arith)
+bears-least (suc (suc zero)) level q d l = absurd (omega arith)
+bears-least (suc (suc (suc zero))) level q d l = absurd (omega arith)
+bears-least (suc (suc (suc (suc k)))) level q d l = bears-below (suc (suc (suc (suc k)))) level q d refl
+
+-- upper limits hold at coarser ones
+bears-above : (kind level q : ℕ) → (level ≡ q → ⊥) → Carried (kindIn kind) level q ≡ (q ≤ level) → Bears kind level q (ltb q level)
+bears-above kind level q d e =
+    record {
+      carried = λ t. rw e (let l : q < level = ltb-true q level t in omega arith);
+      lost = λ t h. let l : level ≤ q = ltb-false q level t in let m : q ≤ level = rw e at h in omega arith;
+    }
+
+pub bears-most : (kind level q : ℕ) → (level ≡ q → ⊥) → (kind ≡ 2 → ⊥) → kind < 4 → Bears kind level q (ltb q level)
+bears-most zero level q d n l = bears-above zero level q d refl
+bears-most (suc zero) level q d n l = bears-above (suc zero) level q d refl
+bears-most (suc (suc zero)) level q d n l = absurd (n refl)
+bears-most (suc (suc (suc zero))) level q d n l = bears-above (suc (suc (suc zero))) level q d refl
+bears-most (suc (suc (suc (suc k)))) level q d n l = absurd (omega arith)
+
+module _ (steps people : ℕ) (class kind level limit scope : List ℕ) (q : ℕ) where
+  pub carries-none : (kind′ level′ limit′ : List ℕ) → length kind′ ≡ 64 → length level′ ≡ 64 → length limit′ ≡ 64
+      → Carries steps people 0 class kind level limit scope q kind′ level′ limit′
+  carries-none kind′ level′ limit′ a b c =
+      record { kinds = a; levels = b; limits = c; at = λ i l. absurd (omega arith); follows = λ i l. absurd (omega arith) }
+
+  module _ (n : ℕ) (kind′ level′ limit′ : List ℕ) (w : Carries steps people n class kind level limit scope q kind′ level′ limit′) where
+    pub carries-more : (k m : ℕ) → n < 64
+        → Follows steps people class q (getD kind n 0) (getD level n 0) (getD limit n 0) (getD scope n 0) k m
+        → Carries steps people (n + 1) class kind level limit scope q (set kind′ n k) (set level′ n q) (set limit′ n m)
+    carries-more k m l b =
+        record {
+          kinds = length-set kind′ n k ∙ w .kinds;
+          levels = length-set level′ n q ∙ w .levels;
+          limits = length-set limit′ n m ∙ w .limits;
+          at = λ i h.
+              by-cases (eqb i n)
+              (λ e. rw (eqb-true i n e) (getD-set-same level′ n q 0 (omega (arith, w .levels))))
+              (λ e. let d = eqb-false i n e in getD-set-other level′ n i q 0 d ∙ w .at i (omega arith));
+          follows = λ i h.
+              by-cases (eqb i n)
+              (λ e. rw (eqb-true i n e, getD-set-same kind′ n k 0 (omega (arith, w .kinds)), getD-set-same limit′ n m 0 (omega (arith, w .limits))) b)
+              (λ e. let d = eqb-false i n e in rw (getD-set-other kind′ n i k 0 d, getD-set-other limit′ n i m 0 d) (w .follows i (omega arith)));
+        }
+
+    pub carries-all : (rules : ℕ) → n ≡ rules → Carries steps people rules class kind level limit scope q kind′ level′ limit′
+    carries-all rules e = subst (λ (k : ℕ). Carries steps people k class kind level limit scope q kind′ level′ limit′) e w
 
 -- the steps of a scope, counted as bits
 module _ (steps : ℕ) (few : steps ≤ 12) where
@@ -84,7 +107,3 @@ module _ (steps : ℕ) (few : steps ≤ 12) where
 
   pub scope-few : (scope : ℕ) → ones (scope % (1 * 2 ^ steps % 65536)) ≤ 12
   scope-few scope = let e = scope-counted scope in let l = count-le steps (hasBit scope) in omega arith
-
-pub carries-all : (steps n rules : ℕ) (kind level limit scope : List ℕ) (q : ℕ) (kind′ level′ limit′ : List ℕ) → n ≡ rules
-    → Carries steps n kind level limit scope q kind′ level′ limit′ → Carries steps rules kind level limit scope q kind′ level′ limit′
-carries-all steps n rules kind level limit scope q kind′ level′ limit′ e w = subst (λ (k : ℕ). Carries steps k kind level limit scope q kind′ level′ limit′) e w

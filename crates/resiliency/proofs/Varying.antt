@@ -45,10 +45,10 @@ apart-more n may rest x w l h =
     }
 
 -- a plan found among fewer people
-pub existence-apart : (j : Job) (may rest plan plan′ : List ℕ) (n : ℕ) → j .steps ≤ n → length plan′ ≡ 12 → Apart n may rest → Trial j rest plan′ Found
+pub existence-apart : (ordered : Bool) (j : Job) (may rest plan plan′ : List ℕ) (n : ℕ) → j .steps ≤ n → length plan′ ≡ 12 → Apart n may rest → Trial ordered j rest plan′ Found
     → Existence j (mayIn may) plan plan′ true
 unfolding Trial
-existence-apart j may rest plan plan′ n few e w t =
+existence-apart ordered j may rest plan plan′ n few e w t =
     record {
       sized = e;
       won = λ x. record {

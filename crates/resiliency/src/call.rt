@@ -1,6 +1,8 @@
 // The spare call: a sheet, a buffer and a cap become a number and 16 bytes.
 use super::Spared;
 use super::job::job_count;
+use crew::NO_PLAN;
+use crew::SHORT;
 use crew::number;
 use crew::write::put_long;
 use sheet::Reading;
@@ -14,16 +16,12 @@ ghost use Rattle.resiliency.specs.Known.{told};
 ghost use Rattle.resiliency.specs.Spare.{answered, spareAnswer};
 ghost use Rattle.resiliency.specs.Left.{Left, Named};
 
-// The greatest cap, the bytes of a spare count, and the refusals of the caller and of the job.
+// The greatest cap, the bytes of a spare count, and the refusal of a greater cap.
 const MOST_AWAY: u32 = 3;
 
 const SPARE_BYTES: usize = 16;
 
-const SHORT_REFUSED: u32 = 256;
-
 const CAP_REFUSED: u32 = 512;
-
-const PLAN_REFUSED: u32 = 3328;
 
 // Writes four numbers.
 fn put_four(out: &mut [u8], count: u32, a: u32, b: u32, c: u32)
@@ -43,7 +41,7 @@ fn write_count(tag: &[u32; 64], cap: u32, count: Spared, out: &mut [u8]) -> u32
 {
     match count {
         Spared::Unsatisfiable => {
-            return PLAN_REFUSED;
+            return NO_PLAN;
         }
         Spared::Capped => {
             put_four(out, cap, 0, 0, 0);
@@ -82,7 +80,7 @@ pub fn walked(sheet: &[u8], answer: &mut [u8], cap: u32, keeping: bool, asked: &
         return number(reading);
     };
     if answer.len() < SPARE_BYTES {
-        return SHORT_REFUSED;
+        return SHORT;
     }
     let job = read.job;
     let tag = job.person_tag;

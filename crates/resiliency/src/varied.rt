@@ -73,7 +73,7 @@ pub fn varied(
         return exists(size, class, kind, level, limit, scope, may, weight, plan);
     }
     let others = apart(may, used);
-    let mut first = [0u8; 12];
+    let mut any = [0u8; 12];
     let tried = attempt(
         size,
         class,
@@ -82,12 +82,13 @@ pub fn varied(
         limit,
         scope,
         &others,
+        false,
         EFFORT,
-        &mut first,
+        &mut any,
     );
     let Tried::Found = tried else {
         return exists(size, class, kind, level, limit, scope, may, weight, plan);
     };
-    *plan = first;
+    *plan = any;
     true
 }

@@ -2,9 +2,9 @@
 use mathlib.Core.Bool.{Bool, true, false, not}
 use mathlib.Core.List.{List}
 use mathlib.Core.Path.{_≡_, refl}
-use Prim.Native.Nat.{ℕ, _≤_, _<_}
+use Prim.Native.Nat.{ℕ, _≤_}
 use native.Mathlib.Omega.{arith}
-use lib.ListN.{length, getD}
+use lib.ListN.{length}
 use Rattle.bits.proofs.Below.{true-false}
 use borrow.Author.Tests.{not-true}
 use Rattle.workflow.specs.Problem.{Job, May}
@@ -12,11 +12,12 @@ use Rattle.pattern.specs.Tables.{mayIn, jobIn}
 use Rattle.levels.specs.Given.{Given}
 use Rattle.levels.specs.Trims.{Levelled, Trims}
 use Rattle.relax.specs.Relaxed.{Carries, Relaxes}
-use Rattle.relax.proofs.Coarser.{relaxes}
+use Rattle.relax.proofs.Relaxation.{relaxes}
 use Rattle.search.specs.Existence.{Existence, Refuting}
 
 module _ (steps people levels rules : ℕ) (class kind level limit scope : List ℕ) (given : Given steps people levels rules class kind level limit scope)
-    (q : ℕ) (from : 1 ≤ q) (to : q ≤ levels) (kind′ level′ limit′ : List ℕ) (w : Carries steps rules kind level limit scope q kind′ level′ limit′) where
+    (q : ℕ) (from : 1 ≤ q) (to : q ≤ levels) (kind′ level′ limit′ : List ℕ)
+    (w : Carries steps people rules class kind level limit scope q kind′ level′ limit′) where
   law : Relaxes steps people levels rules class kind level limit scope kind′ level′ limit′
   law = relaxes steps people levels rules class kind level limit scope given q from to kind′ level′ limit′ w
 

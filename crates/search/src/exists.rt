@@ -4,6 +4,7 @@ use super::limits::limits_reached;
 use super::thorough::thorough;
 use backtrack::Tried;
 use backtrack::attempt;
+use backtrack::narrow_all;
 use bits::set::lowest;
 use eligible::eligible;
 use levels::Size;
@@ -19,8 +20,8 @@ ghost use Rattle.eligible.specs.Rules.{Says};
 ghost use Rattle.levels.specs.Given.{Given};
 ghost use Rattle.search.specs.Existence.{Named, Foremost, AllStaffed, Spread, Existence};
 
-// How many rules the search over people may look at: a few microseconds' worth.
-const EFFORT: u32 = 200;
+// How many rules the search over people may look at: a tenth of a millisecond's worth.
+const EFFORT: u32 = 2000;
 
 // The steps that rules name.
 fn named(steps: usize, rules: usize, scope: &[u16; 64]) -> u16
@@ -132,6 +133,30 @@ pub fn by_patterns(
     true
 }
 
+// Whether there is a valid plan, by the thorough search among those whom the rules leave.
+fn among_narrowed(
+    size: Size,
+    class: &[u8; 192],
+    kind: &[u8; 64],
+    level: &[u8; 64],
+    limit: &[u8; 64],
+    scope: &[u16; 64],
+    may: &[u64; 12],
+    weight: &mut [u32; 12],
+    plan: &mut [u8; 12],
+) -> bool
+    requires { ⌜ Given (size .steps) (size .people) (size .levels) (size .rules) (now class) (now kind) (now level) (now limit) (now scope)
+        × (length (now may) ≡ 12) × (length (now weight) ≡ 12) × (length (now plan) ≡ 12) ⌝ }
+    ensures { λ r. ⌜ Existence (jobIn (size .steps) (size .people) (size .levels) (now (class .entry)) (size .rules) (now (kind .entry)) (now (level .entry)) (now (limit .entry)) (now (scope .entry)))
+        (mayIn (now (may .entry))) (now (plan .entry)) (now (plan .exit)) r × (length (now (weight .exit)) ≡ 12) ⌝ }
+{
+    let mut dom = *may;
+    if !narrow_all(size, class, kind, level, limit, scope, &mut dom) {
+        return false;
+    }
+    thorough(size, class, kind, level, limit, scope, &dom, weight, plan)
+}
+
 // Whether there is a valid plan; `plan` is then one, and else as it was. Most questions are answered by
 // the search over people.
 pub fn exists(
@@ -150,7 +175,7 @@ pub fn exists(
     ensures { λ r. ⌜ Existence (jobIn (size .steps) (size .people) (size .levels) (now (class .entry)) (size .rules) (now (kind .entry)) (now (level .entry)) (now (limit .entry)) (now (scope .entry)))
         (mayIn (now (may .entry))) (now (plan .entry)) (now (plan .exit)) r × (length (now (weight .exit)) ≡ 12) ⌝ }
 {
-    let mut first = [0u8; 12];
+    let mut any = [0u8; 12];
     let tried = attempt(
         size,
         class,
@@ -159,19 +184,20 @@ pub fn exists(
         limit,
         scope,
         may,
+        false,
         EFFORT,
-        &mut first,
+        &mut any,
     );
     match tried {
         Tried::Found => {
-            *plan = first;
+            *plan = any;
             return true;
         }
         Tried::Unsatisfiable => {
             return false;
         }
         Tried::Tired => {
-            return thorough(size, class, kind, level, limit, scope, may, weight, plan);
+            return among_narrowed(size, class, kind, level, limit, scope, may, weight, plan);
         }
     }
 }

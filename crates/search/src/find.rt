@@ -1,6 +1,6 @@
 // The search: each way to place an open step, and the search from there.
 use super::choose::blame;
-use super::choose::choose;
+use super::choose::next_step;
 use super::grow::grow;
 use bits::small::with;
 use bits::small::without;
@@ -42,7 +42,18 @@ pub fn find(
     if rest == 0 {
         return true;
     }
-    let s = choose(may, weight, rest);
+    let s = next_step(
+        size,
+        kind,
+        level,
+        limit,
+        scope,
+        reach,
+        placed,
+        rest,
+        label,
+        weight,
+    );
     let next = with(placed, s);
     let left = without(rest, s);
     let among = of[s];

@@ -7,3 +7,4 @@ pub mod limits;
 pub mod meet;
 pub mod place;
 pub mod thorough;
+mod ways;

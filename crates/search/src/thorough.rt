@@ -28,7 +28,7 @@ fn refuted(
     ensures { λ r. ⌜ Refuting (jobIn (size .steps) (size .people) (size .levels) (now (class .entry)) (size .rules) (now (kind .entry)) (now (level .entry)) (now (limit .entry)) (now (scope .entry)))
         (mayIn (now (may .entry))) r × (length (now (weight .exit)) ≡ 12) ⌝ }
 {
-    let rules = carry(size, kind, level, limit, scope, q);
+    let rules = carry(size, class, kind, level, limit, scope, q);
     let carried = rules.level;
     let kinds = rules.kind;
     let limits = rules.limit;

@@ -1,14 +1,16 @@
--- The proof of the cycle of calls {branch, extend}. `extend` calls `branch` at the same step, and `branch` calls `extend` one step further, so the
--- measures are twice the steps left, and one more for `extend`. The loop's invariant: every plan has one of the people left. Assumes nothing.
-use Rattle.bits.proofs.SetLaws.{removed-less}
-use borrow.Author.Tests.{not-true, not-false}
+-- The proof of the cycle of calls {branch, extend}. `extend` calls `branch` with fewer steps left open, and `branch` calls `extend` with the
+-- same, so the measures are twice the steps as a number, and one more for `branch`. The loop's invariant: every plan has one of the people
+-- left. Assumes nothing.
 use mathlib.Core.Path.{subst}
+use Prim.Native.Nat.{ℕ, _+_, _*_, _<_}
 use native.Mathlib.Omega.{arith}
-use Prim.Native.Nat.{ℕ, _+_, _*_, _-_, _<_}
+use borrow.Author.Tests.{not-true, not-false}
 use borrow.Author.Needs.{needs}
+use Rattle.bits.proofs.SetLaws.{removed-less}
 use Rattle.pattern.specs.Tables.{jobIn}
-use Rattle.backtrack.specs.Trial.{pinned, Trial}
-use Rattle.backtrack.proofs.Extending.{narrowed-trial, narrowed-lost, trial-tired, pinned-alone, pinned-sized, alone-fewer, Untried, untried-start, untried-none, untried-next, untried-found}
+use Rattle.backtrack.specs.Trial.{Trial}
+use Rattle.backtrack.proofs.Extending.{narrowed-trial, narrowed-lost, trial-tired, trial-any, pinned-alone, pinned-sized, Untried, untried-start, untried-none, untried-next, untried-found}
+use Rattle.backtrack.proofs.Ordering.{several-le, alone-small, several-alone, several-none, alone-others, alone-before}
 use borrow.Fn.Kinds.{In}
 use borrow.Fn.PlainCycle.{Measures, is, falls, and}
 use Rattle.backtrack.proofs.branch.Reads as branch
@@ -18,17 +20,20 @@ use Rattle.backtrack.proofs.extend.Reads as extend
 use Rattle.backtrack.proofs.extend.Kinds as extend-kinds
 use Rattle.backtrack.proofs.+branch+extend.Lts-extend as extend-lts
 use Rattle.backtrack.proofs.ends.finish.Reads as finish-reads
+use Rattle.backtrack.proofs.order.next_step.Reads as next-step-reads
+use Rattle.backtrack.proofs.order.several.Reads as several-reads
 use Rattle.bits.proofs.set.lowest.Reads as lowest-reads
-use Rattle.bits.proofs.set.without.Reads as without-reads
+use Rattle.bits.proofs.set.without.Reads as set-without-reads
+use Rattle.bits.proofs.small.without.Reads as small-without-reads
 use Rattle.narrow.proofs.propagate.propagate.Reads as propagate-reads
 use Rattle.backtrack.proofs.+branch+extend.{statement}
 use Rattle.backtrack.proofs.+branch+extend.Tie.{close}
 
 abbrev μ-branch : Measures 9 branch-kinds.ps ℕ
-μ-branch κs a = 2 * (a .0 .steps - a .1 .1 .1 .1 .1 .1 .1 .0)
+μ-branch κs a = 2 * a .1 .1 .1 .1 .1 .1 .1 .1 .0 + 2
 
 abbrev μ-extend : Measures 9 extend-kinds.ps ℕ
-μ-extend κs a = 2 * (a .0 .steps - a .1 .1 .1 .1 .1 .1 .1 .0) + 1
+μ-extend κs a = 2 * a .1 .1 .1 .1 .1 .1 .1 .1 .0 + 1
 
 abbrev branch-at : ℕ → In 9 branch-kinds.ps
 branch-at t = and 9 branch-kinds.ps (is 9 branch-kinds.ps μ-branch t) branch.Pre
@@ -96,15 +101,7 @@ branch-returns : (t : ℕ) → branch-lts.Need-returns (
   extend-below t,
   extend.Post,
 ) (branch-at t) branch.Post
-branch-returns t c = (narrowed-lost _ _ _ _ _ (c .before .propagate .ensures) (not-true _ (c .if1 .taken)), c .before .before .before .before .before .before .pre .1 .3)
-
-branch-add-extend : (t : ℕ) → branch-lts.Need-add-extend (
-  propagate-reads.Asked,
-  propagate-reads.Learnt,
-  extend-below t,
-  extend.Post,
-) (branch-at t) branch.Post
-branch-add-extend t c = omega (arith, c .before .before .before .before .before .before .pre .1 .0 .few-steps)
+branch-returns t c = (narrowed-lost _ _ _ _ _ _ (c .before .propagate .ensures) (not-true _ (c .if1 .taken)), c .before .before .before .before .before .before .pre .1 .3)
 
 branch-extend-requires : (t : ℕ) → branch-lts.Need-extend-requires (
   propagate-reads.Asked,
@@ -112,7 +109,10 @@ branch-extend-requires : (t : ℕ) → branch-lts.Need-extend-requires (
   extend-below t,
   extend.Post,
 ) (branch-at t) branch.Post
-branch-extend-requires t c κs = (omega arith, (c .before .before .before .before .before .before .before .before .before .pre .1 .0, c .before .before .before .before .before .before .before .before .before .pre .1 .1, c .before .before .before .before .propagate .ensures .fewer .sized, c .before .before .before .before .before .before .before .before .before .pre .1 .3, pinned-alone _ (c .before .before .before .before .before .before .before .before .before .pre .1 .2) _ _ (omega (arith, c .before .before .before .before .before .before .before .before .before .pre .1 .0 .few-steps)) (c .before .before .before .before .before .before .before .before .before .pre .1 .6) (c .before .before .before .before .before .before .before .before .before .pre .1 .4) _ (c .before .before .before .before .propagate .ensures .fewer)))
+branch-extend-requires t c κs =
+    let q = c .before .before .before .before .before .before .before .before .before .pre .1 in
+    let n = c .before .before .before .before .propagate .ensures .fewer in
+    (omega arith, (q .0, q .1, n .sized, q .3, pinned-alone _ (q .2) _ _ (omega (arith, q .0 .few-steps)) (q .6) _ _ (q .4) _ n))
 
 branch-returns-2 : (t : ℕ) → branch-lts.Need-returns-2 (
   propagate-reads.Asked,
@@ -120,229 +120,418 @@ branch-returns-2 : (t : ℕ) → branch-lts.Need-returns-2 (
   extend-below t,
   extend.Post,
 ) (branch-at t) branch.Post
-branch-returns-2 t c = (narrowed-trial _ _ _ _ _ (c .before .before .before .before .before .propagate .ensures) (not-false _ (c .before .before .before .before .if1 .left)) _ (c .extend .ensures .0), c .extend .ensures .1)
+branch-returns-2 t c = (narrowed-trial _ _ _ _ _ _ (c .before .before .before .before .before .propagate .ensures) (not-false _ (c .before .before .before .before .if1 .left)) _ (c .extend .ensures .0), c .extend .ensures .1)
 
 abbrev extend-Inv-loop : extend-lts.InvT-loop
-extend-Inv-loop size mates kind level limit scope of s dom effort₀ plan₀ left₀ effort plan left = Untried (jobIn (size .steps) (size .people) (size .levels) mates (size .rules) kind level limit scope) s dom plan left
+extend-Inv-loop size mates kind level limit scope of ordered rest dom effort₀ plan₀ wide s others left₀ effort plan left = Untried (jobIn (size .steps) (size .people) (size .levels) mates (size .rules) kind level limit scope) s dom plan left
 
 abbrev extend-μ-loop : extend-lts.MeasureT-loop
-extend-μ-loop size mates kind level limit scope of s dom effort₀ plan₀ left₀ effort plan left = left
+extend-μ-loop size mates kind level limit scope of ordered rest dom effort₀ plan₀ wide s others left₀ effort plan left = left
+
+extend-several-requires : (t : ℕ) → extend-lts.Need-several-requires (
+  several-reads.Asked,
+  several-reads.Learnt,
+  finish-reads.Asked,
+  finish-reads.Learnt,
+  next-step-reads.Asked,
+  next-step-reads.Learnt,
+  small-without-reads.Asked,
+  small-without-reads.Learnt,
+  lowest-reads.Asked,
+  lowest-reads.Learnt,
+  set-without-reads.Asked,
+  set-without-reads.Learnt,
+  branch-below t,
+  branch.Post,
+) (extend-at t) extend.Post extend-Inv-loop extend-μ-loop
+extend-several-requires t c κs = (alone-small _ _ _ (c .pre .1 .0 .few-steps) (c .pre .1 .4), c .pre .1 .2)
 
 extend-finish-requires : (t : ℕ) → extend-lts.Need-finish-requires (
+  several-reads.Asked,
+  several-reads.Learnt,
   finish-reads.Asked,
   finish-reads.Learnt,
+  next-step-reads.Asked,
+  next-step-reads.Learnt,
+  small-without-reads.Asked,
+  small-without-reads.Learnt,
   lowest-reads.Asked,
   lowest-reads.Learnt,
-  without-reads.Asked,
-  without-reads.Learnt,
+  set-without-reads.Asked,
+  set-without-reads.Learnt,
   branch-below t,
   branch.Post,
 ) (extend-at t) extend.Post extend-Inv-loop extend-μ-loop
-extend-finish-requires t c κs = (c .before .before .before .pre .1 .0, c .before .before .before .pre .1 .2, c .before .before .before .pre .1 .3, alone-fewer _ _ _ (c .before .if1 .taken) (c .before .before .before .pre .1 .4))
+extend-finish-requires t c κs =
+    let q = c .before .before .before .pre .1 in
+    (q .0, q .2, q .3, several-none _ _ _ _ (q .4) (c .before .before .several .ensures) (omega arith))
 
 extend-returns : (t : ℕ) → extend-lts.Need-returns (
+  several-reads.Asked,
+  several-reads.Learnt,
   finish-reads.Asked,
   finish-reads.Learnt,
+  next-step-reads.Asked,
+  next-step-reads.Learnt,
+  small-without-reads.Asked,
+  small-without-reads.Learnt,
   lowest-reads.Asked,
   lowest-reads.Learnt,
-  without-reads.Asked,
-  without-reads.Learnt,
+  set-without-reads.Asked,
+  set-without-reads.Learnt,
   branch-below t,
   branch.Post,
 ) (extend-at t) extend.Post extend-Inv-loop extend-μ-loop
-extend-returns t c = c .finish .ensures
+extend-returns t c = (trial-any _ _ _ _ _ (c .finish .ensures .0), c .finish .ensures .1)
+
+extend-next-step-requires : (t : ℕ) → extend-lts.Need-next-step-requires (
+  several-reads.Asked,
+  several-reads.Learnt,
+  finish-reads.Asked,
+  finish-reads.Learnt,
+  next-step-reads.Asked,
+  next-step-reads.Learnt,
+  small-without-reads.Asked,
+  small-without-reads.Learnt,
+  lowest-reads.Asked,
+  lowest-reads.Learnt,
+  set-without-reads.Asked,
+  set-without-reads.Learnt,
+  branch-below t,
+  branch.Post,
+) (extend-at t) extend.Post extend-Inv-loop extend-μ-loop
+extend-next-step-requires t c κs =
+    let q = c .before .before .pre .1 in
+    (alone-small _ _ _ (q .0 .few-steps) (several-alone _ _ _ _ (q .4) (c .before .several .ensures)), omega arith, q .1, q .2)
+
+extend-without-requires : (t : ℕ) → extend-lts.Need-without-requires (
+  several-reads.Asked,
+  several-reads.Learnt,
+  finish-reads.Asked,
+  finish-reads.Learnt,
+  next-step-reads.Asked,
+  next-step-reads.Learnt,
+  small-without-reads.Asked,
+  small-without-reads.Learnt,
+  lowest-reads.Asked,
+  lowest-reads.Learnt,
+  set-without-reads.Asked,
+  set-without-reads.Learnt,
+  branch-below t,
+  branch.Post,
+) (extend-at t) extend.Post extend-Inv-loop extend-μ-loop
+extend-without-requires t c κs = omega (arith, c .next-step .ensures .0)
 
 extend-mul-left : (t : ℕ) → extend-lts.Need-mul-left (
+  several-reads.Asked,
+  several-reads.Learnt,
   finish-reads.Asked,
   finish-reads.Learnt,
+  next-step-reads.Asked,
+  next-step-reads.Learnt,
+  small-without-reads.Asked,
+  small-without-reads.Learnt,
   lowest-reads.Asked,
   lowest-reads.Learnt,
-  without-reads.Asked,
-  without-reads.Learnt,
+  set-without-reads.Asked,
+  set-without-reads.Learnt,
   branch-below t,
   branch.Post,
 ) (extend-at t) extend.Post extend-Inv-loop extend-μ-loop
-extend-mul-left t c = omega arith
+extend-mul-left t c = omega (arith, c .before .next-step .ensures .0)
 
 extend-element-copy-out-left : (t : ℕ) → extend-lts.Need-element-copy-out-left (
+  several-reads.Asked,
+  several-reads.Learnt,
   finish-reads.Asked,
   finish-reads.Learnt,
+  next-step-reads.Asked,
+  next-step-reads.Learnt,
+  small-without-reads.Asked,
+  small-without-reads.Learnt,
   lowest-reads.Asked,
   lowest-reads.Learnt,
-  without-reads.Asked,
-  without-reads.Learnt,
+  set-without-reads.Asked,
+  set-without-reads.Learnt,
   branch-below t,
   branch.Post,
 ) (extend-at t) extend.Post extend-Inv-loop extend-μ-loop
-extend-element-copy-out-left t c = omega arith
+extend-element-copy-out-left t c = omega (arith, c .before .next-step .ensures .0)
 
 extend-loop-holds : (t : ℕ) → extend-lts.Need-loop-holds (
+  several-reads.Asked,
+  several-reads.Learnt,
   finish-reads.Asked,
   finish-reads.Learnt,
+  next-step-reads.Asked,
+  next-step-reads.Learnt,
+  small-without-reads.Asked,
+  small-without-reads.Learnt,
   lowest-reads.Asked,
   lowest-reads.Learnt,
-  without-reads.Asked,
-  without-reads.Learnt,
+  set-without-reads.Asked,
+  set-without-reads.Learnt,
   branch-below t,
   branch.Post,
 ) (extend-at t) extend.Post extend-Inv-loop extend-μ-loop
-extend-loop-holds t c = untried-start _ _ _ _ (omega arith) (c .before .before .before .pre .1 .3)
+extend-loop-holds t c =
+    let q = c .before .before .before .before .before .pre .1 in
+    untried-start _ _ _ _ (q .4 .below _ (c .before .before .before .before .several .ensures .part _ (c .before .before .next-step .ensures .1))) (q .3)
 
 extend-returns-2 : (t : ℕ) → extend-lts.Need-returns-2 (
+  several-reads.Asked,
+  several-reads.Learnt,
   finish-reads.Asked,
   finish-reads.Learnt,
+  next-step-reads.Asked,
+  next-step-reads.Learnt,
+  small-without-reads.Asked,
+  small-without-reads.Learnt,
   lowest-reads.Asked,
   lowest-reads.Learnt,
-  without-reads.Asked,
-  without-reads.Learnt,
+  set-without-reads.Asked,
+  set-without-reads.Learnt,
   branch-below t,
   branch.Post,
 ) (extend-at t) extend.Post extend-Inv-loop extend-μ-loop
-extend-returns-2 t c = (trial-tired _ _ _, c .before .before .before .loop .inv .sized)
+extend-returns-2 t c = (trial-tired _ _ _ _, c .before .before .before .loop .inv .sized)
 
 extend-sub-effort : (t : ℕ) → extend-lts.Need-sub-effort (
+  several-reads.Asked,
+  several-reads.Learnt,
   finish-reads.Asked,
   finish-reads.Learnt,
+  next-step-reads.Asked,
+  next-step-reads.Learnt,
+  small-without-reads.Asked,
+  small-without-reads.Learnt,
   lowest-reads.Asked,
   lowest-reads.Learnt,
-  without-reads.Asked,
-  without-reads.Learnt,
+  set-without-reads.Asked,
+  set-without-reads.Learnt,
   branch-below t,
   branch.Post,
 ) (extend-at t) extend.Post extend-Inv-loop extend-μ-loop
 extend-sub-effort t c = omega arith
 
 extend-lowest-requires : (t : ℕ) → extend-lts.Need-lowest-requires (
+  several-reads.Asked,
+  several-reads.Learnt,
   finish-reads.Asked,
   finish-reads.Learnt,
+  next-step-reads.Asked,
+  next-step-reads.Learnt,
+  small-without-reads.Asked,
+  small-without-reads.Learnt,
   lowest-reads.Asked,
   lowest-reads.Learnt,
-  without-reads.Asked,
-  without-reads.Learnt,
+  set-without-reads.Asked,
+  set-without-reads.Learnt,
   branch-below t,
   branch.Post,
 ) (extend-at t) extend.Post extend-Inv-loop extend-μ-loop
 extend-lowest-requires t c κs = omega arith
 
-extend-without-requires : (t : ℕ) → extend-lts.Need-without-requires (
+extend-without-requires-2 : (t : ℕ) → extend-lts.Need-without-requires-2 (
+  several-reads.Asked,
+  several-reads.Learnt,
   finish-reads.Asked,
   finish-reads.Learnt,
+  next-step-reads.Asked,
+  next-step-reads.Learnt,
+  small-without-reads.Asked,
+  small-without-reads.Learnt,
   lowest-reads.Asked,
   lowest-reads.Learnt,
-  without-reads.Asked,
-  without-reads.Learnt,
+  set-without-reads.Asked,
+  set-without-reads.Learnt,
   branch-below t,
   branch.Post,
 ) (extend-at t) extend.Post extend-Inv-loop extend-μ-loop
-extend-without-requires t c κs = c .lowest .ensures .0
+extend-without-requires-2 t c κs = c .lowest .ensures .0
 
 extend-branch-requires : (t : ℕ) → extend-lts.Need-branch-requires (
+  several-reads.Asked,
+  several-reads.Learnt,
   finish-reads.Asked,
   finish-reads.Learnt,
+  next-step-reads.Asked,
+  next-step-reads.Learnt,
+  small-without-reads.Asked,
+  small-without-reads.Learnt,
   lowest-reads.Asked,
   lowest-reads.Learnt,
-  without-reads.Asked,
-  without-reads.Learnt,
+  set-without-reads.Asked,
+  set-without-reads.Learnt,
   branch-below t,
   branch.Post,
 ) (extend-at t) extend.Post extend-Inv-loop extend-μ-loop
-extend-branch-requires t c κs = (omega arith, (c .before .before .before .before .before .before .before .before .before .before .before .pre .1 .0, c .before .before .before .before .before .before .before .before .before .before .before .pre .1 .1, c .before .before .before .before .before .before .before .before .before .before .before .pre .1 .2, c .before .before .before .before .before .before .before .loop .inv .sized, c .before .before .before .before .before .before .before .before .before .before .before .pre .1 .4, omega arith, c .before .before .before .lowest .ensures .0))
+extend-branch-requires t c κs =
+    let q = c .before .before .before .before .before .before .before .before .before .before .before .before .before .pre .1 in
+    let w = c .before .before .before .before .before .before .before .before .before .before .before .before .several .ensures in
+    let n = c .before .before .before .before .before .before .before .before .before .before .next-step .ensures in
+    let gone = c .before .before .before .before .before .before .before .before .before .without .ensures in
+    let le = several-le _ _ _ w in
+    let less = removed-less (n .1) gone in
+    (omega arith, (q .0, q .1, q .2, c .before .before .before .before .before .before .before .loop .inv .sized, alone-others _ _ _ _ _ (several-alone _ _ _ _ (q .4) w) gone, q .4 .below _ (w .part _ (n .1)), c .before .before .before .lowest .ensures .0))
 
 extend-enum-told : (t : ℕ) → extend-lts.Need-enum-told (
+  several-reads.Asked,
+  several-reads.Learnt,
   finish-reads.Asked,
   finish-reads.Learnt,
+  next-step-reads.Asked,
+  next-step-reads.Learnt,
+  small-without-reads.Asked,
+  small-without-reads.Learnt,
   lowest-reads.Asked,
   lowest-reads.Learnt,
-  without-reads.Asked,
-  without-reads.Learnt,
+  set-without-reads.Asked,
+  set-without-reads.Learnt,
   branch-below t,
   branch.Post,
 ) (extend-at t) extend.Post extend-Inv-loop extend-μ-loop
 extend-enum-told t c = search needs
 
 extend-returns-3 : (t : ℕ) → extend-lts.Need-returns-3 (
+  several-reads.Asked,
+  several-reads.Learnt,
   finish-reads.Asked,
   finish-reads.Learnt,
+  next-step-reads.Asked,
+  next-step-reads.Learnt,
+  small-without-reads.Asked,
+  small-without-reads.Learnt,
   lowest-reads.Asked,
   lowest-reads.Learnt,
-  without-reads.Asked,
-  without-reads.Learnt,
+  set-without-reads.Asked,
+  set-without-reads.Learnt,
   branch-below t,
   branch.Post,
 ) (extend-at t) extend.Post extend-Inv-loop extend-μ-loop
-extend-returns-3 t c = (untried-found _ _ _ (c .before .before .before .before .before .before .before .before .before .before .before .before .before .before .pre .1 .2) (omega arith) (c .before .before .before .before .before .before .before .before .before .before .before .before .before .before .pre .1 .0 .few-steps) _ _ _ (c .before .before .before .before .before .before .before .before .before .before .loop .inv) (c .before .before .before .before .before .before .lowest .ensures .0) (c .before .before .before .before .before .before .lowest .ensures .1) _ (c .before .before .before .before .before .before .before .before .before .before .before .before .before .before .pre .1 .4) (subst (Trial _ _ _) (c .enum-told .given .1) (c .before .before .branch .ensures .0)), c .before .before .branch .ensures .1)
+extend-returns-3 t c =
+    let q = c .before .before .before .before .before .before .before .before .before .before .before .before .before .before .before .before .pre .1 in
+    let w = c .before .before .before .before .before .before .before .before .before .before .before .before .before .before .before .several .ensures in
+    let n = c .before .before .before .before .before .before .before .before .before .before .before .before .before .next-step .ensures in
+    let low = c .before .before .before .before .before .before .lowest .ensures in
+    let below = q .4 .below _ (w .part _ (n .1)) in (
+      untried-found _ _ _ (q .2) below (q .0 .few-steps) _ _ _ (c .before .before .before .before .before .before .before .before .before .before .loop .inv) (low .0) (low .1) _ _
+          (λ e. alone-before _ _ _ _ (several-alone _ _ _ _ (q .4) w) below (n .2 e))
+          (subst (Trial _ _ _ _) (c .enum-told .given .1) (c .before .before .branch .ensures .0)),
+      c .before .before .branch .ensures .1,
+    )
 
 extend-enum-told-2 : (t : ℕ) → extend-lts.Need-enum-told-2 (
+  several-reads.Asked,
+  several-reads.Learnt,
   finish-reads.Asked,
   finish-reads.Learnt,
+  next-step-reads.Asked,
+  next-step-reads.Learnt,
+  small-without-reads.Asked,
+  small-without-reads.Learnt,
   lowest-reads.Asked,
   lowest-reads.Learnt,
-  without-reads.Asked,
-  without-reads.Learnt,
+  set-without-reads.Asked,
+  set-without-reads.Learnt,
   branch-below t,
   branch.Post,
 ) (extend-at t) extend.Post extend-Inv-loop extend-μ-loop
 extend-enum-told-2 t c = search needs
 
 extend-returns-4 : (t : ℕ) → extend-lts.Need-returns-4 (
+  several-reads.Asked,
+  several-reads.Learnt,
   finish-reads.Asked,
   finish-reads.Learnt,
+  next-step-reads.Asked,
+  next-step-reads.Learnt,
+  small-without-reads.Asked,
+  small-without-reads.Learnt,
   lowest-reads.Asked,
   lowest-reads.Learnt,
-  without-reads.Asked,
-  without-reads.Learnt,
+  set-without-reads.Asked,
+  set-without-reads.Learnt,
   branch-below t,
   branch.Post,
 ) (extend-at t) extend.Post extend-Inv-loop extend-μ-loop
-extend-returns-4 t c = (trial-tired _ _ _, c .before .before .branch .ensures .1)
+extend-returns-4 t c = (trial-tired _ _ _ _, c .before .before .branch .ensures .1)
 
 extend-enum-told-3 : (t : ℕ) → extend-lts.Need-enum-told-3 (
+  several-reads.Asked,
+  several-reads.Learnt,
   finish-reads.Asked,
   finish-reads.Learnt,
+  next-step-reads.Asked,
+  next-step-reads.Learnt,
+  small-without-reads.Asked,
+  small-without-reads.Learnt,
   lowest-reads.Asked,
   lowest-reads.Learnt,
-  without-reads.Asked,
-  without-reads.Learnt,
+  set-without-reads.Asked,
+  set-without-reads.Learnt,
   branch-below t,
   branch.Post,
 ) (extend-at t) extend.Post extend-Inv-loop extend-μ-loop
 extend-enum-told-3 t c = search needs
 
 extend-loop-less : (t : ℕ) → extend-lts.Need-loop-less (
+  several-reads.Asked,
+  several-reads.Learnt,
   finish-reads.Asked,
   finish-reads.Learnt,
+  next-step-reads.Asked,
+  next-step-reads.Learnt,
+  small-without-reads.Asked,
+  small-without-reads.Learnt,
   lowest-reads.Asked,
   lowest-reads.Learnt,
-  without-reads.Asked,
-  without-reads.Learnt,
+  set-without-reads.Asked,
+  set-without-reads.Learnt,
   branch-below t,
   branch.Post,
 ) (extend-at t) extend.Post extend-Inv-loop extend-μ-loop
-extend-loop-less t c = removed-less (c .before .before .before .before .before .before .lowest .ensures .1 .has) (c .before .before .before .before .before .without .ensures)
+extend-loop-less t c = removed-less (c .before .before .before .before .before .before .lowest .ensures .1 .has) (c .before .before .before .before .before .without2 .ensures)
 
 extend-loop-again : (t : ℕ) → extend-lts.Need-loop-again (
+  several-reads.Asked,
+  several-reads.Learnt,
   finish-reads.Asked,
   finish-reads.Learnt,
+  next-step-reads.Asked,
+  next-step-reads.Learnt,
+  small-without-reads.Asked,
+  small-without-reads.Learnt,
   lowest-reads.Asked,
   lowest-reads.Learnt,
-  without-reads.Asked,
-  without-reads.Learnt,
+  set-without-reads.Asked,
+  set-without-reads.Learnt,
   branch-below t,
   branch.Post,
 ) (extend-at t) extend.Post extend-Inv-loop extend-μ-loop
-extend-loop-again t c = untried-next _ _ _ (c .before .before .before .before .before .before .before .before .before .before .before .before .before .before .pre .1 .2) (omega arith) (c .before .before .before .before .before .before .before .before .before .before .before .before .before .before .pre .1 .0 .few-steps) _ _ _ (c .before .before .before .before .before .before .before .before .before .before .loop .inv) (c .before .before .before .before .before .before .lowest .ensures .0) (c .before .before .before .before .before .before .lowest .ensures .1) _ (c .before .before .branch .ensures .1) _ (c .before .before .before .before .before .without .ensures) (subst (Trial _ _ _) (c .enum-told3 .given .1) (c .before .before .branch .ensures .0))
+extend-loop-again t c =
+    let q = c .before .before .before .before .before .before .before .before .before .before .before .before .before .before .before .before .pre .1 in
+    let low = c .before .before .before .before .before .before .lowest .ensures in
+    untried-next _ _ _ (q .2) (q .4 .below _ (c .before .before .before .before .before .before .before .before .before .before .before .before .before .before .before .several .ensures .part _ (c .before .before .before .before .before .before .before .before .before .before .before .before .before .next-step .ensures .1))) (q .0 .few-steps) _ _ _ (c .before .before .before .before .before .before .before .before .before .before .loop .inv) (low .0) (low .1) _ _
+    (c .before .before .branch .ensures .1) _ (c .before .before .before .before .before .without2 .ensures) (subst (Trial _ _ _ _) (c .enum-told3 .given .1) (c .before .before .branch .ensures .0))
 
 extend-returns-5 : (t : ℕ) → extend-lts.Need-returns-5 (
+  several-reads.Asked,
+  several-reads.Learnt,
   finish-reads.Asked,
   finish-reads.Learnt,
+  next-step-reads.Asked,
+  next-step-reads.Learnt,
+  small-without-reads.Asked,
+  small-without-reads.Learnt,
   lowest-reads.Asked,
   lowest-reads.Learnt,
-  without-reads.Asked,
-  without-reads.Learnt,
+  set-without-reads.Asked,
+  set-without-reads.Learnt,
   branch-below t,
   branch.Post,
 ) (extend-at t) extend.Post extend-Inv-loop extend-μ-loop
-extend-returns-5 t c = (untried-none _ _ _ _ _ (c .before .loop .inv) (omega arith), c .before .loop .inv .sized)
+extend-returns-5 t c = (untried-none _ _ _ _ _ (c .before .loop .inv) (omega arith) _, c .before .loop .inv .sized)
 
 pub +branch+extend-spec : {M : Type 1} → statement M
 +branch+extend-spec = close μ-branch μ-extend (λ t. branch-lts.spec (
@@ -360,16 +549,21 @@ pub +branch+extend-spec : {M : Type 1} → statement M
     (branch-element-copy-out-propagate t)
     (branch-propagate-requires t)
     (branch-returns t)
-    (branch-add-extend t)
     (branch-extend-requires t)
     (branch-returns-2 t))
     λ t. extend-lts.spec (
+      several-reads.Asked,
+      several-reads.Learnt,
       finish-reads.Asked,
       finish-reads.Learnt,
+      next-step-reads.Asked,
+      next-step-reads.Learnt,
+      small-without-reads.Asked,
+      small-without-reads.Learnt,
       lowest-reads.Asked,
       lowest-reads.Learnt,
-      without-reads.Asked,
-      without-reads.Learnt,
+      set-without-reads.Asked,
+      set-without-reads.Learnt,
       branch-below t,
       branch.Post,
     )
@@ -377,15 +571,18 @@ pub +branch+extend-spec : {M : Type 1} → statement M
     extend.Post
     extend-Inv-loop
     extend-μ-loop
+    (extend-several-requires t)
     (extend-finish-requires t)
     (extend-returns t)
+    (extend-next-step-requires t)
+    (extend-without-requires t)
     (extend-mul-left t)
     (extend-element-copy-out-left t)
     (extend-loop-holds t)
     (extend-returns-2 t)
     (extend-sub-effort t)
     (extend-lowest-requires t)
-    (extend-without-requires t)
+    (extend-without-requires-2 t)
     (extend-branch-requires t)
     (extend-enum-told t)
     (extend-returns-3 t)

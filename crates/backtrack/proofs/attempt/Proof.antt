@@ -13,7 +13,7 @@ from-masks-requires : tie.Need-from-masks-requires
 from-masks-requires c κs = (given-massed _ _ _ _ _ _ _ _ _ (c .before .before .before .before .before .pre .0) _ (c .before .before .before .before .mates .ensures .0) (c .before .before .before .before .mates .ensures .1), c .before .before .before .naming .ensures .sized, c .before .before .before .before .before .pre .1, c .before .before .before .before .before .pre .2)
 
 returns : tie.Need-returns
-returns c = (trial-named _ _ _ _ _ _ _ _ _ (c .before .before .before .before .before .before .pre .0) _ (c .before .before .before .before .before .mates .ensures .0) (c .before .before .before .before .before .mates .ensures .1) _ _ _ (c .from-masks .ensures .0), c .from-masks .ensures .1)
+returns c = (trial-named _ _ _ _ _ _ _ _ _ (c .before .before .before .before .before .before .pre .0) _ (c .before .before .before .before .before .mates .ensures .0) (c .before .before .before .before .before .mates .ensures .1) _ _ _ _ (c .from-masks .ensures .0), c .from-masks .ensures .1)
 
 pub attempt-spec : {M : Type 1} → statement M
 attempt-spec = tie.close (tie.spec mates-requires naming-requires from-masks-requires returns)

@@ -22,19 +22,19 @@ abbrev μ-loop : tie.MeasureT-loop
 weights-requires : tie.Need-weights-requires Inv-loop μ-loop
 weights-requires c κs = (c .pre .0 .few-steps, c .pre .0 .few-rules, c .pre .0 .scopes)
 
-thorough-requires : tie.Need-thorough-requires Inv-loop μ-loop
-thorough-requires c κs = (c .before .before .before .pre .0, c .before .before .before .pre .1, c .before .before .weights .ensures, refl)
+exists-requires : tie.Need-exists-requires Inv-loop μ-loop
+exists-requires c κs = (c .before .before .before .pre .0, c .before .before .before .pre .1, c .before .before .weights .ensures, refl)
 
 returns : tie.Need-returns Inv-loop μ-loop
-returns c = first-none (c .before .before .before .before .before .args .may .now) (c .before .thorough .ensures .0) (not-true (c .before .thorough .result) (c .if1 .taken))
+returns c = first-none (c .before .before .before .before .before .args .may .now) (c .before .exists .ensures .0) (not-true (c .before .exists .result) (c .if1 .taken))
 
 loop-holds : tie.Need-loop-holds Inv-loop μ-loop
 loop-holds c =
-    let x = c .before .before .thorough .ensures in
-    let plan = c .before .before .thorough .last .1 .1 .1 .1 .1 .1 .1 .1 .0 in (
+    let x = c .before .before .exists .ensures in
+    let plan = c .before .before .exists .last .1 .1 .1 .1 .1 .1 .1 .1 .0 in (
       omega arith,
       x .1,
-      settled-start (c .before .before .before .before .before .before .args .may .now) plan (c .before .before .before .before .before .before .pre .1) (x .0 .sized) (first-standing plan (x .0 .won (not-false (c .before .before .thorough .result) (c .before .if1 .left)))),
+      settled-start (c .before .before .before .before .before .before .args .may .now) plan (c .before .before .before .before .before .before .pre .1) (x .0 .sized) (first-standing plan (x .0 .won (not-false (c .before .before .exists .result) (c .before .if1 .left)))),
     )
 
 settle-requires : tie.Need-settle-requires Inv-loop μ-loop
@@ -61,7 +61,7 @@ from-any-spec =
     Inv-loop
     μ-loop
     weights-requires
-    thorough-requires
+    exists-requires
     returns
     loop-holds
     settle-requires

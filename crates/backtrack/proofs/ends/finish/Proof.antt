@@ -9,7 +9,7 @@ take-requires : tie.Need-take-requires
 take-requires c κs = search needs
 
 returns : tie.Need-returns
-returns c = (trial-tired _ _ _, c .before .take .ensures .0)
+returns c = (trial-tired _ _ _ _, c .before .take .ensures .0)
 
 judge-all-requires : tie.Need-judge-all-requires
 judge-all-requires c κs = search needs

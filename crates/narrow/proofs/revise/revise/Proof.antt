@@ -2,7 +2,7 @@
 use mathlib.Core.Path.{refl}
 use lib.ListN.{getD}
 use Rattle.pattern.specs.Tables.{jobIn, ruleIn}
-use Rattle.narrow.proofs.Ruling.{Settled, wide-small, heads-few, wide-few, too-many, too-few, too-short, with-common, with-left}
+use Rattle.narrow.proofs.Ruling.{Settled, wide-small, heads-few, wide-few, too-many, too-few, too-short, with-common, with-upper, with-left}
 use native.Mathlib.Omega.{arith}
 use borrow.Author.Needs.{needs}
 use Rattle.narrow.proofs.revise.revise.Statement.{statement}
@@ -111,21 +111,44 @@ returns-4 c =
     with-common (state (c .before .before .before .before .before .before .before .before .before .before .before .before .before .before .before .before .before .before .before .before))
     (c .restrict .ensures) (most .result) (most .ensures) (c .before .before .before .before .if5 .taken) (common .ensures)
 
-left-to-requires : tie.Need-left-to-requires
-left-to-requires c κs =
-    let w = state (c .before .before .before .before .before .before .before .before .before .before .before .before .before .before .before) in (omega (arith, heads-few w), omega (arith, wide-few w))
+add-if7 : tie.Need-add-if7
+add-if7 c =
+    let w = state (c .before .before .before .before .before .before .before .before .before .before .before .before .before .before .before .before) in omega (arith, heads-few w, wide-few w)
+
+upper-requires : tie.Need-upper-requires
+upper-requires c κs =
+    let g = c .before .before .before .before .before .before .before .before .before .before .before .before .before .before .before .before .before .before .before .before .before .before .pre in
+    let r = g .0 .rule-ok (c .before .before .before .before .before .before .before .before .before .before .before .before .before .before .before .before .before .before .before .before .before .before .args .i) (g .1) in
+    let w = state (c .before .before .before .before .before .before .before .before .before .before .before .before .before .before .before .before .before .before) in
+    (g .0 .few-people, g .0 .few-levels, g .0 .mated, r .from, r .to, omega (arith, heads-few w), wide-small w, g .2)
 
 restrict-requires-2 : tie.Need-restrict-requires-2
 restrict-requires-2 c κs =
-    (wide-small (state (c .before .before .before .before .before .before .before .before .before .before .before .before .before .before .before .before .before)), c .before .before .before .before .before .before .before .before .before .before .before .before .before .before .before .before .before .before .before .before .before .pre .2)
+    (wide-small (state (c .before .before .before .before .before .before .before .before .before .before .before .before .before .before .before .before .before .before .before .before)), c .before .before .before .before .before .before .before .before .before .before .before .before .before .before .before .before .before .before .before .before .before .before .before .before .pre .2)
 
 returns-5 : tie.Need-returns-5
 returns-5 c =
-    let least = c .before .before .before .before .before .before .before .before .before .least in
-    let most = c .before .before .before .before .before .before .before .before .before .before .before .before .before .most in
-    with-left (state (c .before .before .before .before .before .before .before .before .before .before .before .before .before .before .before .before .before .before))
-    (c .restrict2 .ensures) (least .result) (most .result) (least .ensures) (most .ensures)
-    (c .before .before .before .before .before .before .before .before .before .before .before .before .before .before .before .before .before .before .before .before .before .before .pre .0 .few-people)
+    let most = c .before .before .before .before .before .before .before .before .before .before .before .before .before .before .before .before .most in
+    with-upper (state (c .before .before .before .before .before .before .before .before .before .before .before .before .before .before .before .before .before .before .before .before .before))
+    (c .restrict2 .ensures) (most .result) (most .ensures)
+    (c .before .before .before .before .before .before .before .before .before .before .before .before .before .before .before .before .before .before .before .before .before .before .before .before .before .pre .0 .few-people)
+    (c .before .before .upper .ensures)
+
+left-to-requires : tie.Need-left-to-requires
+left-to-requires c κs =
+    let w = state (c .before .before .before .before .before .before .before .before .before .before .before .before .before .before .before .before) in (omega (arith, heads-few w), omega (arith, wide-few w))
+
+restrict-requires-3 : tie.Need-restrict-requires-3
+restrict-requires-3 c κs =
+    (wide-small (state (c .before .before .before .before .before .before .before .before .before .before .before .before .before .before .before .before .before .before)), c .before .before .before .before .before .before .before .before .before .before .before .before .before .before .before .before .before .before .before .before .before .before .pre .2)
+
+returns-6 : tie.Need-returns-6
+returns-6 c =
+    let least = c .before .before .before .before .before .before .before .before .before .before .least in
+    let most = c .before .before .before .before .before .before .before .before .before .before .before .before .before .before .most in
+    with-left (state (c .before .before .before .before .before .before .before .before .before .before .before .before .before .before .before .before .before .before .before))
+    (c .restrict3 .ensures) (least .result) (most .result) (least .ensures) (most .ensures)
+    (c .before .before .before .before .before .before .before .before .before .before .before .before .before .before .before .before .before .before .before .before .before .before .before .pre .0 .few-people)
     (c .before .before .left-to .ensures)
 
 pub revise-spec : {M : Type 1} → statement M
@@ -155,6 +178,10 @@ revise-spec =
     common-requires
     restrict-requires
     returns-4
-    left-to-requires
+    add-if7
+    upper-requires
     restrict-requires-2
-    returns-5)
+    returns-5
+    left-to-requires
+    restrict-requires-3
+    returns-6)

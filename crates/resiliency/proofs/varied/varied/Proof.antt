@@ -28,7 +28,7 @@ returns-2 : tie.Need-returns-2
 returns-2 c = search needs
 
 returns-3 : tie.Need-returns-3
-returns-3 c = (existence-apart _ _ _ _ _ 12 (c .before .before .before .before .before .before .before .pre .0 .few-steps) (c .before .before .attempt .ensures .1) (c .before .before .before .before .before .apart .ensures) (subst (Trial _ _ _) (c .enum-told .given .1) (c .before .before .attempt .ensures .0)), c .before .before .before .before .before .before .before .pre .2)
+returns-3 c = (existence-apart _ _ _ _ _ _ 12 (c .before .before .before .before .before .before .before .pre .0 .few-steps) (c .before .before .attempt .ensures .1) (c .before .before .before .before .before .apart .ensures) (subst (Trial _ _ _ _) (c .enum-told .given .1) (c .before .before .attempt .ensures .0)), c .before .before .before .before .before .before .before .pre .2)
 
 pub varied-spec : {M : Type 1} → statement M
 varied-spec =

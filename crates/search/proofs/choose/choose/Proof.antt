@@ -9,10 +9,10 @@ use Rattle.search.proofs.choose.choose.Statement.{statement}
 use Rattle.search.proofs.choose.choose.Tie as tie
 
 abbrev Inv-loop : tie.InvT-loop
-Inv-loop may weight rest best₀ left₀ best left = (hasBit rest best ≡ true) × ((u : ℕ) → hasBit left u ≡ true → hasBit rest u ≡ true)
+Inv-loop ways weight rest best₀ left₀ best left = (hasBit rest best ≡ true) × ((u : ℕ) → hasBit left u ≡ true → hasBit rest u ≡ true)
 
 abbrev μ-loop : tie.MeasureT-loop
-μ-loop may weight rest best₀ left₀ best left = left
+μ-loop ways weight rest best₀ left₀ best left = left
 
 lowest-requires : tie.Need-lowest-requires Inv-loop μ-loop
 lowest-requires c κs = search needs
@@ -33,7 +33,7 @@ better-requires : tie.Need-better-requires Inv-loop μ-loop
 better-requires c κs =
     let p = c .before .before .before .before .before .before .pre in
     let v = c .before .before .before .loop .inv in
-    (p .below _ (v .0), p .below _ (v .1 _ (c .before .lowest2 .ensures .1 .has)), p .masks, p .weights)
+    (p .below _ (v .0), p .below _ (v .1 _ (c .before .lowest2 .ensures .1 .has)), p .counts, p .weights)
 
 loop-less : tie.Need-loop-less Inv-loop μ-loop
 loop-less c = removed-less (c .before .before .lowest2 .ensures .1 .has) (c .before .without2 .ensures)

@@ -13,19 +13,19 @@ enum-told : tie.Need-enum-told
 enum-told c = search needs
 
 returns : tie.Need-returns
-returns c = (existence-found _ _ _ _ (c .before .before .attempt .ensures .1) (subst (Trial _ _ _) (c .enum-told .given .1) (c .before .before .attempt .ensures .0)), c .before .before .before .before .pre .2)
+returns c = (existence-found _ _ _ _ _ (c .before .before .attempt .ensures .1) (subst (Trial _ _ _ _) (c .enum-told .given .1) (c .before .before .attempt .ensures .0)), c .before .before .before .before .pre .2)
 
 enum-told-2 : tie.Need-enum-told-2
 enum-told-2 c = search needs
 
 returns-2 : tie.Need-returns-2
-returns-2 c = (existence-none _ _ _ _ (c .before .before .before .before .pre .3) (subst (Trial _ _ _) (c .enum-told2 .given .1) (c .before .before .attempt .ensures .0)), c .before .before .before .before .pre .2)
+returns-2 c = (existence-none _ _ _ _ _ (c .before .before .before .before .pre .3) (subst (Trial _ _ _ _) (c .enum-told2 .given .1) (c .before .before .attempt .ensures .0)), c .before .before .before .before .pre .2)
 
 enum-told-3 : tie.Need-enum-told-3
 enum-told-3 c = search needs
 
-thorough-requires : tie.Need-thorough-requires
-thorough-requires c κs = search needs
+among-narrowed-requires : tie.Need-among-narrowed-requires
+among-narrowed-requires c κs = search needs
 
 returns-3 : tie.Need-returns-3
 returns-3 c = search needs
@@ -40,5 +40,5 @@ exists-spec =
     enum-told-2
     returns-2
     enum-told-3
-    thorough-requires
+    among-narrowed-requires
     returns-3)

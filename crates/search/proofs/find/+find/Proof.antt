@@ -8,6 +8,8 @@ use borrow.Author.Tests.{not-true, not-false}
 use Rattle.bits.proofs.SetLaws.{removed-less}
 use Rattle.pattern.specs.Tables.{mayIn, jobIn}
 use Rattle.search.specs.State.{Tried}
+use Rattle.narrow.proofs.Masks.{bits-below}
+use Rattle.search.proofs.LowerLimits.{bounded}
 use Rattle.search.proofs.Turn.{named-touched, outcome-end, tried-none, reached-next, outcome-won, turn-growable, tried-lost, tried-failed, outcome-lost}
 use borrow.Fn.Kinds.{In}
 use borrow.Fn.PlainCycle.{Measures, is, falls, and}
@@ -17,7 +19,7 @@ use Rattle.search.proofs.find.+find.Lts-find as find-lts
 use Rattle.bits.proofs.small.with.Reads as with-reads
 use Rattle.bits.proofs.small.without.Reads as without-reads
 use Rattle.search.proofs.choose.blame.Reads as blame-reads
-use Rattle.search.proofs.choose.choose.Reads as choose-reads
+use Rattle.search.proofs.choose.next_step.Reads as next-step-reads
 use Rattle.search.proofs.grow.grow.Reads as grow-reads
 use Rattle.search.proofs.find.+find.{statement}
 use Rattle.search.proofs.find.+find.Tie.{close}
@@ -33,8 +35,8 @@ find-below t = and 11 find-kinds.ps (falls 11 find-kinds.ps _<_ μ-find t) find.
 
 abbrev claims : ℕ → find-lts.Claims
 claims t = (
-  choose-reads.Asked,
-  choose-reads.Learnt,
+  next-step-reads.Asked,
+  next-step-reads.Learnt,
   with-reads.Asked,
   with-reads.Learnt,
   without-reads.Asked,
@@ -60,16 +62,24 @@ find-μ-loop size class kind level limit scope may crowd reach of placed rest la
 find-returns : (t : ℕ) → find-lts.Need-returns (claims t) (find-at t) find.Post find-Inv-loop find-μ-loop
 find-returns t c = (outcome-end (c .before .pre .1 .3) (c .if1 .taken), c .before .pre .1 .2)
 
-find-choose-requires : (t : ℕ) → find-lts.Need-choose-requires (claims t) (find-at t) find.Post find-Inv-loop find-μ-loop
-find-choose-requires t c κs =
-    let p = c .before .before .pre .1 in
-    record { masks = p .1; weights = p .2; some = c .before .if1 .left; below = λ s h. let l = p .3 .below s h in omega (arith, p .0 .few-steps) }
+find-next-step-requires : (t : ℕ) → find-lts.Need-next-step-requires (claims t) (find-at t) find.Post find-Inv-loop find-μ-loop
+find-next-step-requires t c κs =
+    let p = c .before .before .before .pre .1 in (
+      bounded (p .0),
+      p .0 .few-levels,
+      bits-below 12 _ (λ s h. let l = p .3 .patterned .inside s h in omega (arith, p .0 .few-steps)),
+      bits-below 12 _ (λ s h. let l = p .3 .below s h in omega (arith, p .0 .few-steps)),
+      c .before .before .if1 .left,
+      p .4 .reaches .sized,
+      p .3 .patterned .sized,
+      p .2,
+    )
 
 -- the step chosen is one of the job
-below : (t : ℕ) (c : find-lts.After-choose (claims t) (find-at t) find.Post find-Inv-loop find-μ-loop) → c .choose .result < 12
+below : (t : ℕ) (c : find-lts.After-next-step (claims t) (find-at t) find.Post find-Inv-loop find-μ-loop) → c .next-step .result < 12
 below t c =
-    let p = c .before .before .before .pre .1 in
-    let l = p .3 .below (c .choose .result) (c .choose .ensures) in
+    let p = c .before .before .before .before .pre .1 in
+    let l = p .3 .below (c .next-step .result) (c .next-step .ensures) in
     omega (arith, p .0 .few-steps)
 
 find-with-requires : (t : ℕ) → find-lts.Need-with-requires (claims t) (find-at t) find.Post find-Inv-loop find-μ-loop
@@ -82,22 +92,22 @@ find-mul-among : (t : ℕ) → find-lts.Need-mul-among (claims t) (find-at t) fi
 find-mul-among t c = omega (arith, below t (c .before .before))
 
 find-element-copy-out-among : (t : ℕ) → find-lts.Need-element-copy-out-among (claims t) (find-at t) find.Post find-Inv-loop find-μ-loop
-find-element-copy-out-among t c = omega (arith, below t (c .before .before), c .before .before .before .before .before .pre .1 .5 .sized)
+find-element-copy-out-among t c = omega (arith, below t (c .before .before), c .before .before .before .before .before .before .pre .1 .5 .sized)
 
 find-mul-ways : (t : ℕ) → find-lts.Need-mul-ways (claims t) (find-at t) find.Post find-Inv-loop find-μ-loop
-find-mul-ways t c = omega (arith, c .before .before .before .before .before .before .before .pre .1 .0 .few-levels)
+find-mul-ways t c = omega (arith, c .before .before .before .before .before .before .before .before .pre .1 .0 .few-levels)
 
 find-add-ways : (t : ℕ) → find-lts.Need-add-ways (claims t) (find-at t) find.Post find-Inv-loop find-μ-loop
-find-add-ways t c = omega (arith, c .before .before .before .before .before .before .before .pre .1 .0 .few-levels)
+find-add-ways t c = omega (arith, c .before .before .before .before .before .before .before .before .pre .1 .0 .few-levels)
 
 find-loop-holds : (t : ℕ) → find-lts.Need-loop-holds (claims t) (find-at t) find.Post find-Inv-loop find-μ-loop
-find-loop-holds t c = (omega arith, c .before .before .before .before .before .before .before .pre .1 .2, tried-none (c .before .before .before .before .before .before .before .pre .1 .3) (c .before .before .before .before .choose .ensures) (c .before .before .before .with .ensures) (c .before .before .without .ensures))
+find-loop-holds t c = (omega arith, c .before .before .before .before .before .before .before .before .pre .1 .2, tried-none (c .before .before .before .before .before .before .before .before .pre .1 .3) (c .before .before .before .before .next-step .ensures) (c .before .before .before .with .ensures) (c .before .before .without .ensures))
 
 find-grow-requires : (t : ℕ) → find-lts.Need-grow-requires (claims t) (find-at t) find.Post find-Inv-loop find-μ-loop
 find-grow-requires t c κs =
     let l = c .before .before in
-    let r = l .before .before .before .before .before .before .before .before .pre .1 in
-    let ch = l .before .before .before .before .before .choose .ensures in
+    let r = l .before .before .before .before .before .before .before .before .before .pre .1 in
+    let ch = l .before .before .before .before .before .next-step .ensures in
     let ad = l .before .before .before .before .with .ensures in
     let go = l .before .before .before .without .ensures in (
       r .0,
@@ -108,7 +118,7 @@ find-grow-requires t c κs =
     )
 
 find-add-w : (t : ℕ) → find-lts.Need-add-w (claims t) (find-at t) find.Post find-Inv-loop find-μ-loop
-find-add-w t c = omega (arith, c .before .before .before .loop-test .taken, c .before .before .before .before .before .before .before .before .before .before .before .before .pre .1 .0 .few-levels)
+find-add-w t c = omega (arith, c .before .before .before .loop-test .taken, c .before .before .before .before .before .before .before .before .before .before .before .before .before .pre .1 .0 .few-levels)
 
 find-loop-less : (t : ℕ) → find-lts.Need-loop-less (claims t) (find-at t) find.Post find-Inv-loop find-μ-loop
 find-loop-less t c = omega (arith, c .before .before .before .loop-test .taken)
@@ -116,8 +126,8 @@ find-loop-less t c = omega (arith, c .before .before .before .loop-test .taken)
 find-loop-again : (t : ℕ) → find-lts.Need-loop-again (claims t) (find-at t) find.Post find-Inv-loop find-μ-loop
 find-loop-again t c =
     let l = c .before .before .before .before in
-    let r = l .before .before .before .before .before .before .before .before .pre .1 in
-    let ch = l .before .before .before .before .before .choose .ensures in
+    let r = l .before .before .before .before .before .before .before .before .before .pre .1 in
+    let ch = l .before .before .before .before .before .next-step .ensures in
     let ad = l .before .before .before .before .with .ensures in
     let go = l .before .before .before .without .ensures in (
       omega (arith, c .before .before .before .loop-test .taken),
@@ -129,25 +139,25 @@ find-loop-again t c =
 find-find-requires : (t : ℕ) → find-lts.Need-find-requires (claims t) (find-at t) find.Post find-Inv-loop find-μ-loop
 find-find-requires t c κs =
     let l = c .before .before .before .before .before .before in
-    let r = l .before .before .before .before .before .before .before .before .pre .1 in
-    let ch = l .before .before .before .before .before .choose .ensures in
+    let r = l .before .before .before .before .before .before .before .before .before .pre .1 in
+    let ch = l .before .before .before .before .before .next-step .ensures in
     let ad = l .before .before .before .before .with .ensures in
     let go = l .before .before .before .without .ensures in (
-      subst (λ (n : ℕ). l .before .before .before .without .result < n) (l .before .before .before .before .before .before .before .before .pre .0) (removed-less ch go),
+      subst (λ (n : ℕ). l .before .before .before .without .result < n) (l .before .before .before .before .before .before .before .before .before .pre .0) (removed-less ch go),
       (r .0, r .1, l .loop .inv .1, reached-next (r .3) ch ad go (c .before .before .before .grow .ensures) (not-false (c .before .before .before .grow .result) (c .before .before .if2 .left)), r .4, r .5),
     )
 
 find-returns-2 : (t : ℕ) → find-lts.Need-returns-2 (claims t) (find-at t) find.Post find-Inv-loop find-μ-loop
 find-returns-2 t c =
     let l = c .before .before .before .before .before .before .before .before in
-    let r = l .before .before .before .before .before .before .before .before .pre .1 in
-    let ch = l .before .before .before .before .before .choose .ensures in
+    let r = l .before .before .before .before .before .before .before .before .before .pre .1 in
+    let ch = l .before .before .before .before .before .next-step .ensures in
     let ad = l .before .before .before .before .with .ensures in
     let go = l .before .before .before .without .ensures in
     (outcome-won (r .3) ch ad go (c .before .find .ensures .0) (c .if3 .taken), c .before .find .ensures .1)
 
 find-add-w-2 : (t : ℕ) → find-lts.Need-add-w-2 (claims t) (find-at t) find.Post find-Inv-loop find-μ-loop
-find-add-w-2 t c = omega (arith, c .before .before .before .before .before .before .before .loop-test .taken, c .before .before .before .before .before .before .before .before .before .before .before .before .before .before .before .before .pre .1 .0 .few-levels)
+find-add-w-2 t c = omega (arith, c .before .before .before .before .before .before .before .loop-test .taken, c .before .before .before .before .before .before .before .before .before .before .before .before .before .before .before .before .before .pre .1 .0 .few-levels)
 
 find-loop-less-2 : (t : ℕ) → find-lts.Need-loop-less-2 (claims t) (find-at t) find.Post find-Inv-loop find-μ-loop
 find-loop-less-2 t c = omega (arith, c .before .before .before .before .before .before .before .loop-test .taken)
@@ -155,8 +165,8 @@ find-loop-less-2 t c = omega (arith, c .before .before .before .before .before .
 find-loop-again-2 : (t : ℕ) → find-lts.Need-loop-again-2 (claims t) (find-at t) find.Post find-Inv-loop find-μ-loop
 find-loop-again-2 t c =
     let l = c .before .before .before .before .before .before .before .before in
-    let r = l .before .before .before .before .before .before .before .before .pre .1 in
-    let ch = l .before .before .before .before .before .choose .ensures in
+    let r = l .before .before .before .before .before .before .before .before .before .pre .1 in
+    let ch = l .before .before .before .before .before .next-step .ensures in
     let ad = l .before .before .before .before .with .ensures in
     let go = l .before .before .before .without .ensures in (
       omega (arith, c .before .before .before .before .before .before .before .loop-test .taken),
@@ -172,8 +182,8 @@ find-blame-requires t c κs = (below t (c .before .before .before .before .befor
 find-returns-3 : (t : ℕ) → find-lts.Need-returns-3 (claims t) (find-at t) find.Post find-Inv-loop find-μ-loop
 find-returns-3 t c =
     let l = c .before .before .before in
-    let r = l .before .before .before .before .before .before .before .before .pre .1 in
-    let ch = l .before .before .before .before .before .choose .ensures in
+    let r = l .before .before .before .before .before .before .before .before .before .pre .1 in
+    let ch = l .before .before .before .before .before .next-step .ensures in
     let ad = l .before .before .before .before .with .ensures in
     let go = l .before .before .before .without .ensures in
     (outcome-lost (r .3) ch ad go (r .0 .searchable .refining) (r .0 .few-steps) (l .loop .inv .2) (omega (arith, c .before .before .loop-test .left)), c .blame .ensures)
@@ -185,7 +195,7 @@ pub +find-spec : {M : Type 1} → statement M
     find-Inv-loop
     find-μ-loop
     (find-returns t)
-    (find-choose-requires t)
+    (find-next-step-requires t)
     (find-with-requires t)
     (find-without-requires t)
     (find-mul-among t)

@@ -5,7 +5,7 @@ use Rattle.search.proofs.thorough.refuted.Statement.{statement}
 use Rattle.search.proofs.thorough.refuted.Tie as tie
 
 carry-requires : tie.Need-carry-requires
-carry-requires c κs = (c .pre .0 .few-steps, c .pre .0 .few-rules, c .pre .0 .kinds, c .pre .0 .rule-levels, c .pre .0 .limits, c .pre .0 .scopes)
+carry-requires c κs = (c .pre .0, c .pre .3, c .pre .4)
 
 keep-requires : tie.Need-keep-requires
 keep-requires c κs = (carried-levelled _ _ _ _ _ _ _ _ _ (c .before .before .before .before .before .pre .0) _ (c .before .before .before .before .before .pre .3) (c .before .before .before .before .before .pre .4) _ _ _ (c .before .before .before .before .carry .ensures), c .before .before .before .before .before .pre .0 .classes)

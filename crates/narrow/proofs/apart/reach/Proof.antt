@@ -1,4 +1,4 @@
--- `narrow::revise::reach` meets its contract: whoever shares a class with somebody passed is found, and the people left fall. Assumes nothing.
+-- `narrow::apart::reach` meets its contract: whoever shares a class with somebody passed is found, and the people left fall. Assumes nothing.
 use lib.Bits.{bitXor}
 use Rattle.pattern.specs.Tables.{classIn}
 use Rattle.narrow.specs.Fixing.{Reaching}
@@ -6,8 +6,8 @@ use Rattle.narrow.proofs.Masks.{part-less}
 use Rattle.narrow.proofs.Reach.{reaching-none, reaching-more, reaching-all}
 use native.Mathlib.Omega.{arith}
 use borrow.Author.Needs.{needs}
-use Rattle.narrow.proofs.revise.reach.Statement.{statement}
-use Rattle.narrow.proofs.revise.reach.Tie as tie
+use Rattle.narrow.proofs.apart.reach.Statement.{statement}
+use Rattle.narrow.proofs.apart.reach.Tie as tie
 
 abbrev Inv-loop : tie.InvT-loop
 Inv-loop people levels mates level domain found₀ left₀ found left = Reaching people (classIn mates level) domain left found

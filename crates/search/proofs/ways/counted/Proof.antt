@@ -1,0 +1,63 @@
+-- `search::ways::counted` keeps to its arrays, and the steps left fall. Assumes nothing.
+use Prim.Native.Nat.{_-_, _<_}
+use native.Mathlib.Omega.{arith}
+use lib.ListN.{length}
+use borrow.Author.Needs.{needs}
+use mathlib.Core.Path.{_≡_, refl}
+use lib.ListN.{length-set}
+use Rattle.narrow.proofs.Masks.{lowest-less, lowest-below}
+use Rattle.search.proofs.ways.counted.Statement.{statement}
+use Rattle.search.proofs.ways.counted.Tie as tie
+
+abbrev Inv-loop : tie.InvT-loop
+Inv-loop levels reach free label heads rest ways₀ left₀ ways left = (left < 4096) × (length ways ≡ 12)
+
+abbrev μ-loop : tie.MeasureT-loop
+μ-loop levels reach free label heads rest ways₀ left₀ ways left = left
+
+loop-holds : tie.Need-loop-holds Inv-loop μ-loop
+loop-holds c = (c .pre .1, refl)
+
+lowest-requires : tie.Need-lowest-requires Inv-loop μ-loop
+lowest-requires c κs = search needs
+
+without-requires : tie.Need-without-requires Inv-loop μ-loop
+without-requires c κs = search needs
+
+-- the step of a turn
+below : (c : tie.After-without Inv-loop μ-loop) → c .before .lowest .result < 12
+below c = lowest-below (c .before .before .before .loop .inv .0) (c .before .lowest .ensures .1)
+
+ways-of-requires : tie.Need-ways-of-requires Inv-loop μ-loop
+ways-of-requires c κs = let p = c .before .before .before .before .pre in (p .0, below c, p .2, p .3, p .4, p .5)
+
+mul-ways : tie.Need-mul-ways Inv-loop μ-loop
+mul-ways c = omega (arith, below (c .before))
+
+array-write-ways : tie.Need-array-write-ways Inv-loop μ-loop
+array-write-ways c = omega (arith, below (c .before), c .before .before .before .before .loop .inv .1)
+
+loop-less : tie.Need-loop-less Inv-loop μ-loop
+loop-less c = lowest-less (c .before .before .lowest .ensures .1) (c .before .without .ensures)
+
+loop-again : tie.Need-loop-again Inv-loop μ-loop
+loop-again c = (omega (arith, lowest-less (c .before .before .lowest .ensures .1) (c .before .without .ensures), c .before .before .before .before .loop .inv .0), simp length-set (c .before .before .before .before .loop .inv .1))
+
+returns : tie.Need-returns Inv-loop μ-loop
+returns c = c .before .loop .inv .1
+
+pub counted-spec : {M : Type 1} → statement M
+counted-spec =
+    tie.close
+    (tie.spec
+    Inv-loop
+    μ-loop
+    loop-holds
+    lowest-requires
+    without-requires
+    ways-of-requires
+    mul-ways
+    array-write-ways
+    loop-less
+    loop-again
+    returns)

@@ -1,0 +1,237 @@
+// How many ways each open step has left, by the rules alone. A step with few ways is placed next, so that
+// a search which fails does so early. No promise rests on it.
+use bits::small;
+use eligible::least;
+use eligible::most;
+use levels::Size;
+use realize::parts::groups_of;
+ghost use mathlib.Core.Path.{_≡_};
+ghost use Prim.Native.Nat.{_<_, _≤_};
+ghost use lib.ListN.{length};
+ghost use Rattle.search.specs.Limits.{Bounded};
+
+// Any label.
+const ANY: u16 = 0xffff;
+
+// The labels of some steps at the level whose labels begin at `top`.
+fn labels_of(steps: u16, top: usize, label: &[u8; 36]) -> u16
+    requires { ⌜ (steps < 4096) × (top ≤ 24) × (length (now label) ≡ 36) ⌝ }
+{
+    let mut found: u16 = 0;
+    let mut left = steps;
+    while left != 0 {
+        let s = small::lowest(left);
+        left = small::without(left, s);
+        found = small::with(found, (label[top + s] % 16) as usize);
+    }
+    found
+}
+
+// The steps of a scope that are in a set.
+fn within(scope: u16, steps: u16) -> u16
+    ensures { λ r. ⌜ r < 4096 ⌝ }
+{
+    scope % 4096 & steps
+}
+
+// How many elements a set has.
+fn number(set: u16) -> u32
+    ensures { λ r. ⌜ r ≤ 16 ⌝ }
+{
+    u16::count_ones(set)
+}
+
+// Leaves some steps only such labels.
+fn leave(steps: u16, top: usize, labels: u16, free: &mut [u16; 36])
+    requires { ⌜ (steps < 4096) × (top ≤ 24) × (length (now free) ≡ 36) ⌝ }
+    ensures { λ _. ⌜ length (now (free .exit)) ≡ 36 ⌝ }
+{
+    let mut left = steps;
+    while left != 0 {
+        let s = small::lowest(left);
+        left = small::without(left, s);
+        free[top + s] = free[top + s] & labels;
+    }
+}
+
+// The labels that a rule leaves to its open steps: at its upper end those that its placed steps have, at
+// its lower end the others.
+fn by_rule(
+    steps: usize,
+    kind: u8,
+    limit: u8,
+    top: usize,
+    scope: u16,
+    placed: u16,
+    label: &[u8; 36],
+    free: &mut [u16; 36],
+)
+    requires { ⌜ (top ≤ 24) × (length (now label) ≡ 36) × (length (now free) ≡ 36) ⌝ }
+    ensures { λ _. ⌜ length (now (free .exit)) ≡ 36 ⌝ }
+{
+    let left = within(scope, placed ^ ANY);
+    let labels = labels_of(within(scope, placed), top, label);
+    let groups = number(labels) as usize;
+    if groups >= most(kind, limit, steps) {
+        leave(left, top, labels, free);
+        return;
+    }
+    if groups + number(left) as usize > least(kind, limit) as usize {
+        return;
+    }
+    leave(left, top, labels ^ ANY, free);
+}
+
+// The labels that all rules leave to the open steps.
+fn by_rules(
+    size: Size,
+    kind: &[u8; 64],
+    level: &[u8; 64],
+    limit: &[u8; 64],
+    scope: &[u16; 64],
+    placed: u16,
+    label: &[u8; 36],
+    free: &mut [u16; 36],
+)
+    requires { ⌜ Bounded (size .steps) (size .rules) (now kind) (now level) (now limit) (now scope) × (length (now label) ≡ 36) × (length (now free) ≡ 36) ⌝ }
+    ensures { λ _. ⌜ length (now (free .exit)) ≡ 36 ⌝ }
+{
+    let rules = size.rules;
+    for i in 0..rules {
+        by_rule(
+            size.steps,
+            kind[i],
+            limit[i],
+            (level[i] - 1) as usize * 12,
+            scope[i],
+            placed,
+            label,
+            free,
+        );
+    }
+}
+
+// Whether step `s` can join the group of level `q` + 1 that is named by `t`: they reach a class in common,
+// and the labels are free.
+fn joinable(
+    reach: &[u64; 36],
+    free: &[u16; 36],
+    label: &[u8; 36],
+    q: usize,
+    s: usize,
+    t: usize,
+) -> bool
+    requires { ⌜ (q < 3) × (s < 12) × (t < 12) × (length (now reach) ≡ 36) × (length (now free) ≡ 36) × (length (now label) ≡ 36) ⌝ }
+{
+    if reach[q * 12 + s] & reach[q * 12 + t] == 0 {
+        return false;
+    }
+    for x in 0..q + 1 {
+        if !small::has(free[x * 12 + s], (label[x * 12 + t] % 16) as usize) {
+            return false;
+        }
+    }
+    true
+}
+
+// Those of some groups of level `q` + 1 that step `s` can join.
+fn joined(
+    reach: &[u64; 36],
+    free: &[u16; 36],
+    label: &[u8; 36],
+    q: usize,
+    s: usize,
+    groups: u16,
+) -> u16
+    requires { ⌜ (q < 3) × (s < 12) × (groups < 4096) × (length (now reach) ≡ 36) × (length (now free) ≡ 36) × (length (now label) ≡ 36) ⌝ }
+{
+    let mut found: u16 = 0;
+    let mut left = groups;
+    while left != 0 {
+        let t = small::lowest(left);
+        left = small::without(left, t);
+        if !joinable(reach, free, label, q, s, t) {
+            continue;
+        }
+        found = small::with(found, t);
+    }
+    found
+}
+
+// How many ways step `s` has: to join a group and be new below its level, or new at all levels.
+fn ways_of(
+    levels: usize,
+    reach: &[u64; 36],
+    free: &[u16; 36],
+    label: &[u8; 36],
+    heads: &[u16; 3],
+    s: usize,
+) -> u32
+    requires { ⌜ (levels ≤ 3) × (s < 12) × (length (now reach) ≡ 36) × (length (now free) ≡ 36) × (length (now label) ≡ 36) × (length (now heads) ≡ 3) ⌝ }
+{
+    let mut ways: u32 = 0;
+    for k in 0..levels {
+        let q = levels - 1 - k;
+        ways += number(joined(reach, free, label, q, s, heads[q] % 4096));
+        if !small::has(free[q * 12 + s], s) {
+            return ways;
+        }
+    }
+    ways + 1
+}
+
+// The groups of each level, by their names.
+fn heads_of(levels: usize, placed: u16, label: &[u8; 36]) -> [u16; 3]
+    requires { ⌜ (levels ≤ 3) × (placed < 4096) × (length (now label) ≡ 36) ⌝ }
+    ensures { λ r. ⌜ length r ≡ 3 ⌝ }
+{
+    let mut heads = [0u16; 3];
+    for q in 0..levels {
+        heads[q] = groups_of(label, q, placed);
+    }
+    heads
+}
+
+// How many ways each step of `rest` has.
+fn counted(
+    levels: usize,
+    reach: &[u64; 36],
+    free: &[u16; 36],
+    label: &[u8; 36],
+    heads: &[u16; 3],
+    rest: u16,
+) -> [u32; 12]
+    requires { ⌜ (levels ≤ 3) × (rest < 4096) × (length (now reach) ≡ 36) × (length (now free) ≡ 36) × (length (now label) ≡ 36) × (length (now heads) ≡ 3) ⌝ }
+    ensures { λ r. ⌜ length r ≡ 12 ⌝ }
+{
+    let mut ways = [0u32; 12];
+    let mut left = rest;
+    while left != 0 {
+        let s = small::lowest(left);
+        left = small::without(left, s);
+        ways[s] = ways_of(levels, reach, free, label, heads, s);
+    }
+    ways
+}
+
+// How many ways each open step has left.
+pub fn ways_left(
+    size: Size,
+    kind: &[u8; 64],
+    level: &[u8; 64],
+    limit: &[u8; 64],
+    scope: &[u16; 64],
+    reach: &[u64; 36],
+    placed: u16,
+    rest: u16,
+    label: &[u8; 36],
+) -> [u32; 12]
+    requires { ⌜ Bounded (size .steps) (size .rules) (now kind) (now level) (now limit) (now scope) × (size .levels ≤ 3) × (placed < 4096) × (rest < 4096)
+        × (length (now reach) ≡ 36) × (length (now label) ≡ 36) ⌝ }
+    ensures { λ r. ⌜ length r ≡ 12 ⌝ }
+{
+    let mut free = [ANY; 36];
+    by_rules(size, kind, level, limit, scope, placed, label, &mut free);
+    let heads = heads_of(size.levels, placed, label);
+    counted(size.levels, reach, &free, label, &heads, rest)
+}
