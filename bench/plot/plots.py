@@ -1,6 +1,6 @@
 """The plots: times against the number of rules, and the library against each other search."""
 
-from records import FAMILIES, TIME_OF, family, median, micros, practice_rules
+from records import FAMILIES, LIBRARY_FOR, TIME_OF, family, median, micros, practice_rules
 from svg import Linear, Log, Plot
 
 OURS, THEIRS = "#1b6ca8", "#d1495b"
@@ -37,7 +37,7 @@ def scatter(title, y_name, sets, start=None):
     if not known:
         return None
     heights = [y for _, y in known] + ([start] if start else [])
-    plot = Plot(title, "library, crew", y_name, Log([x for x, _ in known]), Log(heights))
+    plot = Plot(title, "library", y_name, Log([x for x, _ in known]), Log(heights))
     plot.equal("as long")
     if start:
         plot.level("its start", start)
@@ -46,11 +46,11 @@ def scatter(title, y_name, sets, start=None):
     return plot.svg()
 
 
-def by_family(rows, column, said="", hollow=False):
+def by_family(rows, column, ours="crew_ns", said="", hollow=False):
     sets = []
     for name, _ in FAMILIES:
         own = [row for row in rows if family(row["group"]) == name]
-        points = [(micros(row, "crew_ns"), micros(row, column)) for row in own]
+        points = [(micros(row, ours), micros(row, column)) for row in own]
         sets.append((name + said, points, COLOURS[name], hollow))
     return sets
 
@@ -63,7 +63,7 @@ def against_peer(record, solver):
     column = TIME_OF[solver]
     sets = []
     for question, said, hollow in (("exists", ", any plan", False), ("first", ", first plan", True)):
-        sets += by_family(record.of(solver=solver, question=question), column, said, hollow)
+        sets += by_family(record.of(solver=solver, question=question), column, LIBRARY_FOR[question], said, hollow)
     starts = [micros(row, column) for row in record.of(group="start", solver=solver, question="exists")]
     start = median(starts) if starts else None
-    return scatter(f"Crew against {SAID[solver].split(',')[0]}", SAID[solver], sets, start)
+    return scatter(f"The library against {SAID[solver].split(',')[0]}", SAID[solver], sets, start)

@@ -12,6 +12,9 @@ FAMILIES = [
     ("hard", ["hard"]),
 ]
 
+# The library's time for the same question: crew for the first plan, spare with cap 0 for existence.
+LIBRARY_FOR = {"first": "crew_ns", "exists": "exists_ns"}
+
 # What is set against the library's time, reading included: SAT4J is warm, and its wall time is reading and solving; the
 # others print their CPU time.
 TIME_OF = {"minisat": "own_ns", "clingo": "own_ns", "sat4j": "wall_ns"}

@@ -2,7 +2,7 @@
 
 import math
 
-from records import TIME_OF, at, family, median, micros, number, practice_rules
+from records import LIBRARY_FOR, TIME_OF, at, family, median, micros, number, practice_rules
 
 
 def time(value):
@@ -76,9 +76,9 @@ def others(record):
 
 
 def peers(record):
-    """A row for each solver, question and group. The ratio is that of crew to own, and to wall for SAT4J."""
+    """A row for each solver, question and group. The ratio is that of library to own, and to wall for SAT4J."""
     heading = [
-        "sheets of", "solver", "asked for", "sheets", "crew median", "worst", "wall median", "worst", "own median",
+        "sheets of", "solver", "asked for", "sheets", "library median", "worst", "wall median", "worst", "own median",
         "worst", "ratio of medians", "late", "different",
     ]
     lines = []
@@ -88,26 +88,27 @@ def peers(record):
             rows = record.of(group=group, solver=solver, question=question)
             if not rows:
                 continue
-            crew, wall, own = (column(rows, name) for name in ("crew_ns", "wall_ns", "own_ns"))
+            ours, wall, own = (column(rows, name) for name in (LIBRARY_FOR[question], "wall_ns", "own_ns"))
             lines.append([
                 group, solver, "first plan" if question == "first" else "any plan", str(len(rows)),
-                time(median(crew)), time(max(crew)), time(median(wall)), time(max(wall)),
-                time(median(own)), time(max(own)), ratio(median(crew), median(column(rows, TIME_OF[solver]))),
+                time(median(ours)), time(max(ours)), time(median(wall)), time(max(wall)),
+                time(median(own)), time(max(own)), ratio(median(ours), median(column(rows, TIME_OF[solver]))),
                 str(sum(map(math.isinf, own))), str(sum(row["agrees"] == "no" for row in rows)),
             ])
     return table(heading, lines)
 
 
 def slower_than(record, times=10):
-    """Sheets on which the library takes so many times as long as a solver: the solver's wall time, its start included."""
+    """Sheets on which a call of the library takes so many times as long as a solver: its wall time, its start included."""
     lines = []
     for row in record.rows:
-        crew, wall = micros(row, "crew_ns"), micros(row, "wall_ns")
-        if not math.isinf(wall) and crew > times * wall:
-            lines.append([row["group"], row["sheet"], row["solver"], row["question"], time(crew), time(wall)])
+        crew, exists, wall = (micros(row, name) for name in ("crew_ns", "exists_ns", "wall_ns"))
+        if not math.isinf(wall) and max(crew, exists) > times * wall:
+            asked = "first plan" if row["question"] == "first" else "any plan"
+            lines.append([row["group"], row["sheet"], row["solver"], asked, time(wall), time(crew), time(exists)])
     if not lines:
         return f"None takes {times} times as long as a solver.\n"
-    return table(["sheets of", "sheet", "solver", "asked for", "crew", "wall"], lines)
+    return table(["sheets of", "sheet", "solver", "asked for", "wall", "crew", "spare, cap 0"], lines)
 
 
 def walk(record):

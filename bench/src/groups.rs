@@ -8,6 +8,9 @@ use sheet_tests::recipe::practice_job;
 /// The rules of practice sheets of full size, a group for each.
 const PRACTICE_RULES: [usize; 12] = [0, 2, 4, 6, 8, 10, 12, 14, 20, 32, 48, 64];
 
+/// The group of kept sheets.
+pub const HARD: &str = "hard";
+
 /// A job from its number within the group, from 1 on.
 type Jobs = Box<dyn Fn(u32) -> Job>;
 
@@ -39,7 +42,7 @@ fn random_group(name: &str, job: fn(&mut Random) -> Job) -> Group {
 fn hard_group() -> Group {
     let jobs: Vec<Job> = hard::kept().into_iter().map(|(_, job)| job).collect();
     let sheets = jobs.len() as u32;
-    Group { name: "hard".to_string(), sheets, job: Box::new(move |number| jobs[number as usize - 1].clone()) }
+    Group { name: HARD.to_string(), sheets, job: Box::new(move |number| jobs[number as usize - 1].clone()) }
 }
 
 /// The practice sheets of full size.
@@ -97,7 +100,7 @@ mod tests {
 
     #[test]
     fn sheets_are_of_full_size_but_for_the_range_and_what_the_climb_found() {
-        for group in all().into_iter().filter(|group| group.name != "practice-range" && group.name != "hard") {
+        for group in all().into_iter().filter(|group| group.name != "practice-range" && group.name != HARD) {
             let job = (group.job)(1);
             assert_eq!((job.steps.len(), job.people.len()), (MOST_STEPS, MOST_PEOPLE), "{}", group.name);
         }

@@ -29,13 +29,14 @@ use table::Line;
 
 pub const USAGE: &str = "bench peers CSV [--sheets N] [--limit-ms N] [--late-ms N] [GROUP...]
   CSV         the file for a line a sheet, solver and question
-  --sheets    sheets in each group, 10 unless given
+  --sheets    sheets in each group, 10 unless given; of 'hard' all
   --limit-ms  time for one answer of a solver, 1000 unless given; what is late for existence is not asked for a first plan
   --late-ms   time for one call of the library, 1000 unless given
   GROUP       only these; 'practice' stands for all that begin with 'practice-'
 MiniSat and clingo are processes of their own: 'wall' has their start and their reading, 'own' is the CPU time that they
 print. SAT4J is kept warm in one Java machine: 'wall' is reading and solving, 'own' solving alone. The group 'start' is one
-person and one step: what a solver costs before it works. MiniSat needs several calls for a first plan, which are added up.";
+person and one step: what a solver costs before it works. MiniSat needs several calls for a first plan, which are added up.
+'library' is the call for the same question: crew for the first plan, spare with cap 0 for existence.";
 
 /// SAT4J solves so many sheets before anything is measured.
 const WARM_UP: u32 = 40;
@@ -67,6 +68,14 @@ fn ours(job: &Job, answer: &Answer) -> Ours {
     Some((*number == 0).then(|| people_of(job, crew)).flatten())
 }
 
+/// Whether the spare call with cap 0, which asks for existence alone, says the same as the crew call, as far as both ended.
+fn says_the_same(ours: &Ours, existence: &Answer) -> bool {
+    match (ours, existence) {
+        (Some(plan), Some((number, _))) => plan.is_some() == (*number == 0),
+        _ => true,
+    }
+}
+
 /// A late answer agrees with any. A plan is looked at also where only existence was asked for.
 fn agrees(job: &Job, ours: &Ours, solved: &Option<Solved>, question: Question) -> bool {
     let Some(solved) = solved else {
@@ -85,7 +94,7 @@ fn agrees(job: &Job, ours: &Ours, solved: &Option<Solved>, question: Question) -
 fn sheets(order: &Order) -> Vec<(String, u32, Job)> {
     let mut sheets: Vec<_> = (1..=5).map(|sheet| ("start".to_string(), sheet, plain_job(1, 1, 0))).collect();
     for group in groups::meant(&order.groups) {
-        let numbers = 1..=order.sheets.min(group.sheets);
+        let numbers = 1..=if group.name == groups::HARD { group.sheets } else { order.sheets.min(group.sheets) };
         sheets.extend(numbers.map(|sheet| (group.name.clone(), sheet, (group.job)(sheet))));
     }
     sheets
@@ -127,8 +136,10 @@ pub fn run(order: &Order) -> io::Result<usize> {
     let mut worker = Worker::new();
     let mut lines: Vec<Line> = vec![];
     for (group, sheet, job) in sheets(order) {
-        let (answer, nanos) = called(&mut worker, Call::Crew, &job, order.library)?;
+        let (answer, crew) = called(&mut worker, Call::Crew, &job, order.library)?;
+        let (existence, exists) = called(&mut worker, Call::Spare { cap: 0 }, &job, order.library)?;
         let ours = ours(&job, &answer);
+        let one_mind = says_the_same(&ours, &existence);
         for solver in &mut solvers {
             for (question, solved) in answers(solver.as_mut(), &job, order.limit)? {
                 let line = Line {
@@ -136,10 +147,11 @@ pub fn run(order: &Order) -> io::Result<usize> {
                     sheet,
                     size: [job.steps.len(), job.people.len(), job.rules.len()],
                     has_plan: ours.as_ref().map(Option::is_some),
-                    crew: nanos,
+                    crew,
+                    exists,
                     solver: solver.name(),
                     question,
-                    agrees: agrees(&job, &ours, &solved, question),
+                    agrees: one_mind && agrees(&job, &ours, &solved, question),
                     solved,
                 };
                 writeln!(csv, "{}", table::csv_line(&line))?;

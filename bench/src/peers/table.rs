@@ -10,8 +10,10 @@ pub struct Line {
     /// Steps, people, rules.
     pub size: [usize; 3],
     pub has_plan: Option<bool>,
-    /// The library's time for the crew.
+    /// The library's time for the first plan, by the crew call.
     pub crew: Nanos,
+    /// The library's time for existence alone, by the spare call with cap 0.
+    pub exists: Nanos,
     pub solver: &'static str,
     pub question: Question,
     /// Nothing where it was late.
@@ -20,6 +22,14 @@ pub struct Line {
 }
 
 impl Line {
+    /// The library's time for the same question.
+    fn library(&self) -> Nanos {
+        match self.question {
+            Question::Exists => self.exists,
+            Question::First => self.crew,
+        }
+    }
+
     fn wall(&self) -> Nanos {
         self.solved.as_ref().map(|solved| solved.wall.as_nanos() as u64)
     }
@@ -29,7 +39,8 @@ impl Line {
     }
 }
 
-pub const CSV_HEADING: &str = "group,sheet,steps,people,rules,plan,crew_ns,solver,question,calls,wall_ns,own_ns,agrees";
+pub const CSV_HEADING: &str =
+    "group,sheet,steps,people,rules,plan,crew_ns,exists_ns,solver,question,calls,wall_ns,own_ns,agrees";
 
 /// A time that is missing stands for an answer that was late.
 pub fn csv_line(line: &Line) -> String {
@@ -37,16 +48,17 @@ pub fn csv_line(line: &Line) -> String {
     let size = line.size.map(|size| size.to_string()).join(",");
     let calls = line.solved.as_ref().map_or(String::new(), |solved| solved.calls.to_string());
     let (solver, question) = (line.solver, line.question.word());
-    let head = format!("{},{},{size},{},{}", line.group, line.sheet, plan_word(line.has_plan), field(line.crew));
+    let ours = format!("{},{},{}", plan_word(line.has_plan), field(line.crew), field(line.exists));
+    let head = format!("{},{},{size},{ours}", line.group, line.sheet);
     let agrees = if line.agrees { "yes" } else { "no" };
     format!("{head},{solver},{question},{calls},{},{},{agrees}", field(line.wall()), field(line.own()))
 }
 
 fn row(group: &str, name: &str, lines: &[&Line]) -> String {
     let of = |times: fn(&Line) -> Nanos| figures(lines.iter().map(|line| times(line)));
-    let (crew, wall, own) = (of(|line| line.crew), of(Line::wall), of(Line::own));
-    let shown = [crew.median, crew.worst, wall.median, wall.worst, own.median, own.worst];
-    let times: String = shown.iter().map(|micros| format!(" {:>12}", time(*micros))).collect();
+    let (ours, wall, own) = (of(Line::library), of(Line::wall), of(Line::own));
+    let shown = [ours.median, ours.worst, wall.median, wall.worst, own.median, own.worst];
+    let times: String = shown.iter().map(|micros| format!(" {:>14}", time(*micros))).collect();
     let differing = lines.iter().filter(|line| !line.agrees).count();
     format!("{group:24} {name:14} {:>6}{times} {:>5} {differing:>9}", lines.len(), own.unfinished)
 }
@@ -60,8 +72,8 @@ pub fn text(lines: &[Line]) -> String {
             keys.push(key(line));
         }
     }
-    let columns = ["crew median", "worst", "wall median", "worst", "own median", "worst"];
-    let heading: String = columns.iter().map(|column| format!(" {column:>12}")).collect();
+    let columns = ["library median", "worst", "wall median", "worst", "own median", "worst"];
+    let heading: String = columns.iter().map(|column| format!(" {column:>14}")).collect();
     let mut text = vec![format!(
         "{:24} {:14} {:>6}{heading} {:>5} {:>9}",
         "group, times in us", "solver", "sheets", "late", "different"

@@ -61,7 +61,7 @@ fn group_count(steps: usize, scope: u16, level: usize, placed: u16, label: &[u8;
 }
 
 // The number of steps of a scope that are not placed.
-fn open_count(steps: usize, scope: u16, placed: u16) -> usize
+pub fn open_count(steps: usize, scope: u16, placed: u16) -> usize
     requires { ⌜ steps ≤ 12 ⌝ }
     ensures { λ r. ⌜ r ≡ count steps (λ s. hasBit scope s && not (hasBit placed s)) ⌝ }
 {

@@ -71,33 +71,13 @@ module _ (j : Job) (may less : May) (s : ℕ) (f : ℕ → Bool) (narrowed : Nar
         (λ t l. fixed t (σ t) l (v .authorised t (omega arith)) ∙ sym (fixed t (τ t) l (narrowed-back τ u .authorised t (omega arith)))))))
 
 module _ (j : Job) (may less : May) (s : ℕ) (π : Plan) (standing : Standing j may s π) (below : s < j .steps) where
-  -- somebody before π s: a plan found is earlier at s, and the first plan is the same
-  pub before-less : Narrowed may less s (λ p. ltb p (π s) && may s p) → (σ : Plan) → Valid j less σ → σ s < π s
-  before-less n σ v = ltb-true _ _ (and-left (ltb (σ s) (π s)) _ (sym (n .own (σ s)) ∙ v .authorised s below))
+  -- a plan found with fewer people at s stands too
+  pub other-standing : (f : ℕ → Bool) → Narrowed may less s f → ((p : ℕ) → f p ≡ true → may s p ≡ true) → (σ : Plan) → Valid j less σ → Standing j may s σ
+  other-standing f n part σ v =
+      let w : Valid j may σ = narrowed-back j may less s f n part σ v in
+      record { valid = w; fixed = λ t p l h. standing .fixed t p l h ∙ sym (standing .fixed t (σ t) l (w .authorised t (omega arith))) }
 
-  pub before-standing : Narrowed may less s (λ p. ltb p (π s) && may s p) → (σ : Plan) → Valid j less σ → Standing j less s σ
-  before-standing n σ v =
-      record {
-        valid = v;
-        fixed = λ t p l h.
-            let d : t ≡ s → ⊥ = λ e. omega arith in
-            standing .fixed t p l (sym (n .others t d p) ∙ h)
-            ∙ sym (standing .fixed t (σ t) l (sym (n .others t d (σ t)) ∙ v .authorised t (omega arith)));
-      }
-
-  pub before-first : Narrowed may less s (λ p. ltb p (π s) && may s p) → Satisfiable j less → firstPlan j less ≡ firstPlan j may
-  before-first n w =
-      narrowed-first j may less s (λ p. ltb p (π s) && may s p) n (λ p h. and-right (ltb p (π s)) _ h) π (standing .fixed) below w
-      (λ σ τ v u le.
-      let b : τ s < π s = before-less n τ u in
-      and-of (ltb (σ s) (π s)) _ (lt-ltb (σ s) (π s) (omega arith)) (v .authorised s below))
-
-  -- and where there is none, nobody earlier does s in a valid plan
-  pub before-none : Narrowed may less s (λ p. ltb p (π s) && may s p) → (Satisfiable j less → ⊥) → (σ : Plan) → Valid j may σ → σ s < π s → ⊥
-  before-none n none σ v l =
-      none (σ, narrowed-valid j may less s (λ p. ltb p (π s) && may s p) n σ v (and-of (ltb (σ s) (π s)) _ (lt-ltb (σ s) (π s) l) (v .authorised s below)))
-
-  -- then s is fixed
+  -- where nobody before π s does s in a valid plan, s is fixed
   module _ (none : (σ : Plan) → Valid j may σ → σ s < π s → ⊥) (n : Narrowed may less s (λ p. eqb p (π s))) where
     own-part : (p : ℕ) → eqb p (π s) ≡ true → may s p ≡ true
     own-part p h = subst (λ (x : ℕ). may s x ≡ true) (sym (eqb-true p (π s) h)) (standing .valid .authorised s below)

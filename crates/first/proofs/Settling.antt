@@ -1,4 +1,4 @@
--- The first plan in arrays: what a turn that finds somebody earlier, and one that does not, do to the masks and the plan. Assumes
+-- The first plan in arrays: what a person tried at a step, in whom a plan is found or not, does to the masks and the plan. Assumes
 -- nothing.
 use mathlib.Core.Bool.{Bool, true, false, _&&_}
 use mathlib.Core.List.{List}
@@ -11,19 +11,20 @@ use lib.Dec.{eqb, ltb, lit<}
 use lib.ListN.{length, getD, set, length-set}
 use lib.Pow.{pow-pos, shl-exact}
 use lib.Seq.{getD-set-same, getD-set-other}
-use borrow.Author.Tests.{lt-ltb}
+use borrow.Author.Tests.{eqb-true, eqb-false, ltb-true, lt-ltb}
 use Rattle.bits.specs.Word.{hasBit}
-use Rattle.bits.proofs.Below.{true-false}
+use Rattle.bits.specs.Set.{Removed, Lowest}
+use Rattle.bits.proofs.Below.{by-cases, true-false, and-left, and-right}
 use Rattle.bits.proofs.Counting.{and-of}
-use Rattle.bits.proofs.SetLaws.{zero-empty, mod-bit}
-use Rattle.workflow.specs.Problem.{Job, May, Valid}
+use Rattle.bits.proofs.SetLaws.{zero-empty, mod-bit, removed-other, removed-was}
+use Rattle.workflow.specs.Problem.{Job, May, Plan, Valid}
 use Rattle.workflow.specs.First.{firstPlan}
 use Rattle.workflow.proofs.First.{no-valid-plan}
 use Rattle.pattern.specs.Tables.{mayIn, planIn}
 use Rattle.backtrack.proofs.Extending.{own-bit}
 use Rattle.search.specs.Existence.{Existence}
-use Rattle.first.specs.Settle.{Standing, Bettering, Settled, answer}
-use Rattle.first.proofs.Narrow.{Narrowed, before-less, before-standing, before-first, before-none, fixed-standing, fixed-first, standing-first}
+use Rattle.first.specs.Settle.{Standing, Settled, answer}
+use Rattle.first.proofs.Narrow.{Narrowed, narrowed-valid, other-standing, fixed-standing, fixed-first, standing-first}
 
 -- one bit of a word
 bit-word : (n : ℕ) → n < 64 → 1 * 2 ^ n % 18446744073709551616 ≡ 2 ^ n
@@ -49,82 +50,98 @@ mask-set may may′ s x f e l own others =
 pub standing-person : {j : Job} {may : May} {s : ℕ} (plan : List ℕ) → Standing j may s (planIn plan) → s < j .steps → j .people ≤ 64 → planIn plan s < 64
 standing-person {j} {may} {s} plan w l few = omega (arith, w .valid .within s l)
 
+-- the people of `left` are still to be tried at step s: nobody else before the one in hand does it in a valid plan. Only the mask of s has
+-- changed
+pub record Looking (j : Job) (s : ℕ) (may may′ plan plan′ : List ℕ) (left : ℕ) : Type 0 where
+  pub masks : length may′ ≡ 12
+  pub same : plan′ ≡ plan
+  pub others : (t : ℕ) → (t ≡ s → ⊥) → (p : ℕ) → mayIn may′ t p ≡ mayIn may t p
+  pub part : (p : ℕ) → hasBit left p ≡ true → (p < planIn plan s) × (mayIn may s p ≡ true)
+  pub all : (σ : Plan) → Valid j (mayIn may) σ → σ s < planIn plan s → hasBit left (σ s) ≡ true
+
 module _ {j : Job} {s : ℕ} (may plan : List ℕ) (standing : Standing j (mayIn may) s (planIn plan)) (masks : length may ≡ 12) (sized : length plan ≡ 12)
     (below : s < j .steps) (few : j .steps ≤ 12) (people : j .people ≤ 64) where
-  -- the people before the one in hand
-  abbrev earlier : ℕ
-  earlier = getD may s 0 % (1 * 2 ^ planIn plan s % 18446744073709551616)
+  person : planIn plan s < 64
+  person = standing-person plan standing below people
 
-  narrowed : Narrowed (mayIn may) (mayIn (set may s earlier)) s (λ p. ltb p (planIn plan s) && mayIn may s p)
-  narrowed = mask-set may may s earlier _ masks (omega arith) (before-bit (getD may s 0) (planIn plan s) (standing-person plan standing below people)) (λ t n p. refl)
-
-  pub bettering-nobody : earlier ≡ 0 → Bettering j s may may plan plan false
-  bettering-nobody e =
+  pub looking-start : Looking j s may may plan plan (getD may s 0 % (1 * 2 ^ planIn plan s % 18446744073709551616))
+  looking-start =
       record {
         masks = masks;
-        sized = sized;
-        won = λ t. true-false refl (sym t);
-        lost = λ t. record {
-          same = refl;
-          others = λ u n p. refl;
-          none-earlier = λ σ v l.
-              true-false
-              (before-bit (getD may s 0) (planIn plan s) (standing-person plan standing below people) (σ s)
-              ∙ and-of (ltb (σ s) (planIn plan s)) _ (lt-ltb (σ s) (planIn plan s) l) (v .authorised s below))
-              (zero-empty earlier e (σ s));
-        };
+        same = refl;
+        others = λ t n p. refl;
+        part = λ p h.
+            let e : ltb p (planIn plan s) && mayIn may s p ≡ true = sym (before-bit (getD may s 0) (planIn plan s) person p) ∙ h in
+            (ltb-true _ _ (and-left (ltb p (planIn plan s)) _ e), and-right (ltb p (planIn plan s)) _ e);
+        all = λ σ v l.
+            before-bit (getD may s 0) (planIn plan s) person (σ s)
+            ∙ and-of (ltb (σ s) (planIn plan s)) _ (lt-ltb (σ s) (planIn plan s) l) (v .authorised s below);
       }
 
-  pub bettering-asked : {plan′ : List ℕ} {r : Bool} → Existence j (mayIn (set may s earlier)) plan plan′ r → Bettering j s may (set may s earlier) plan plan′ r
-  bettering-asked {plan′} x =
+  -- s is fixed to its person in a plan that stands, where nobody earlier does it in a valid plan
+  settled-at : (may′ plan′ : List ℕ) → length may′ ≡ 12 → length plan′ ≡ 12 → ((t : ℕ) → (t ≡ s → ⊥) → (p : ℕ) → mayIn may′ t p ≡ mayIn may t p)
+      → Standing j (mayIn may) s (planIn plan′) → ((σ : Plan) → Valid j (mayIn may) σ → σ s < planIn plan′ s → ⊥)
+      → Settled j (s + 1) may (set may′ s (1 * 2 ^ planIn plan′ s % 18446744073709551616)) plan′
+  settled-at may′ plan′ e f others w none =
+      let y : ℕ = 1 * 2 ^ planIn plan′ s % 18446744073709551616 in
+      let n : Narrowed (mayIn may) (mayIn (set may′ s y)) s (λ p. eqb p (planIn plan′ s))
+      = mask-set may may′ s y _ e (omega arith) (own-bit (planIn plan′ s) (standing-person plan′ w below people)) others in
       record {
-        masks = length-set may s earlier ∙ masks;
-        sized = x .sized;
-        won = λ t. record {
-          standing = before-standing j (mayIn may) (mayIn (set may s earlier)) s (planIn plan) standing below narrowed (planIn plan′) (x .won t);
-          less = before-less j (mayIn may) (mayIn (set may s earlier)) s (planIn plan) standing below narrowed (planIn plan′) (x .won t);
-          first = before-first j (mayIn may) (mayIn (set may s earlier)) s (planIn plan) standing below narrowed (planIn plan′, x .won t);
-        };
-        lost = λ t. record {
-          same = x .kept t;
-          others = narrowed .others;
-          none-earlier = before-none j (mayIn may) (mayIn (set may s earlier)) s (planIn plan) standing below narrowed (x .lost t);
-        };
+        masks = length-set may′ s y ∙ e;
+        sized = f;
+        standing = subst (λ (k : ℕ). Standing j (mayIn (set may′ s y)) k (planIn plan′)) (sym (add-one s))
+            (fixed-standing j (mayIn may) (mayIn (set may′ s y)) s (planIn plan′) w below none n);
+        first = fixed-first j (mayIn may) (mayIn (set may′ s y)) s (planIn plan′) w below none n;
       }
+
+  module _ {may′ plan′ : List ℕ} {left : ℕ} (look : Looking j s may may′ plan plan′ left) where
+    -- nobody is left: the person in hand is the first
+    pub settled-none : left ≡ 0 → Settled j (s + 1) may (set may′ s (1 * 2 ^ planIn plan s % 18446744073709551616)) plan′
+    settled-none e =
+        subst (λ (x : List ℕ). Settled j (s + 1) may (set may′ s (1 * 2 ^ planIn plan s % 18446744073709551616)) x) (sym (look .same))
+        (settled-at may′ plan (look .masks) sized (look .others) standing (λ σ v l. true-false (look .all σ v l) (zero-empty left e (σ s))))
+
+    -- the lowest of those left is tried
+    module _ {q : ℕ} (small : q < 64) (low : Lowest left q) {plan″ : List ℕ} {r : Bool}
+        (x : Existence j (mayIn (set may′ s (1 * 2 ^ q % 18446744073709551616))) plan′ plan″ r) where
+      abbrev pin : List ℕ
+      pin = set may′ s (1 * 2 ^ q % 18446744073709551616)
+
+      pinned : Narrowed (mayIn may) (mayIn pin) s (λ p. eqb p q)
+      pinned = mask-set may may′ s _ _ (look .masks) (omega arith) (own-bit q small) (look .others)
+
+      permitted : (p : ℕ) → eqb p q ≡ true → mayIn may s p ≡ true
+      permitted p h = subst (λ (k : ℕ). mayIn may s k ≡ true) (sym (eqb-true p q h)) (look .part q (low .has) .1)
+
+      pub settled-found : r ≡ true → Settled j (s + 1) may pin plan″
+      settled-found e =
+          subst (λ (k : ℕ). Settled j (s + 1) may (set may′ s (1 * 2 ^ k % 18446744073709551616)) plan″) at
+          (settled-at may′ plan″ (look .masks) (x .sized) (look .others)
+          (other-standing j (mayIn may) (mayIn pin) s (planIn plan) standing below (λ p. eqb p q) pinned permitted (planIn plan″) (x .won e))
+          (λ σ v l.
+          let a : σ s < q = subst (λ (k : ℕ). σ s < k) at l in
+          let b : q < planIn plan s = look .part q (low .has) .0 in
+          true-false (look .all σ v (omega arith)) (low .before (σ s) a)))
+        where
+          at : planIn plan″ s ≡ q
+          at = eqb-true (planIn plan″ s) q (sym (pinned .own (planIn plan″ s)) ∙ x .won e .authorised s below)
+
+      pub looking-next : (left′ : ℕ) → Removed left q left′ → r ≡ false → Looking j s may pin plan plan″ left′
+      looking-next left′ gone e =
+          record {
+            masks = length-set may′ s _ ∙ look .masks;
+            same = x .kept e ∙ look .same;
+            others = pinned .others;
+            part = λ p h. look .part p (removed-was gone p h);
+            all = λ σ v l.
+                by-cases (eqb (σ s) q)
+                (λ t. absurd (x .lost e (σ, narrowed-valid j (mayIn may) (mayIn pin) s (λ p. eqb p q) pinned σ v t)))
+                (λ t. removed-other gone (σ s) (eqb-false (σ s) q t) ∙ look .all σ v l);
+          }
 
 module _ {j : Job} {s : ℕ} where
   pub settled-start : (may plan : List ℕ) → length may ≡ 12 → length plan ≡ 12 → Standing j (mayIn may) s (planIn plan) → Settled j s may may plan
   settled-start may plan e f w = record { masks = e; sized = f; standing = w; first = refl }
-
-  pub settled-better : {may now now′ plan plan′ : List ℕ} {r : Bool} → Settled j s may now plan → Bettering j s now now′ plan plan′ r → r ≡ true → Settled j s may now′ plan′
-  settled-better w b e =
-      let x = b .won e in record { masks = b .masks; sized = b .sized; standing = x .standing; first = x .first ∙ w .first }
-
-  pub better-less : {now now′ plan plan′ : List ℕ} {r : Bool} → Bettering j s now now′ plan plan′ r → r ≡ true → planIn plan′ s < planIn plan s
-  better-less b e = b .won e .less
-
-  pub settled-fixed : {may now now′ plan plan′ : List ℕ} {r : Bool} → s < j .steps → j .steps ≤ 12 → j .people ≤ 64 → Settled j s may now plan
-      → Bettering j s now now′ plan plan′ r → r ≡ false → Settled j (s + 1) may (set now′ s (1 * 2 ^ planIn plan′ s % 18446744073709551616)) plan′
-  settled-fixed {may} {now} {now′} {plan} {plan′} below few people w b e =
-      let x = b .lost e in
-      let y : ℕ = 1 * 2 ^ planIn plan s % 18446744073709551616 in
-      let n : Narrowed (mayIn now) (mayIn (set now′ s y)) s (λ p. eqb p (planIn plan s))
-      = mask-set now now′ s y _ (b .masks) (omega arith) (own-bit (planIn plan s) (standing-person plan (w .standing) below people)) (x .others)
-      in
-      subst (λ (q : List ℕ). Settled j (s + 1) may (set now′ s (1 * 2 ^ planIn q s % 18446744073709551616)) q) (sym (x .same))
-      (record {
-        masks = length-set now′ s y ∙ b .masks;
-        sized = w .sized;
-        standing = subst (λ (k : ℕ). Standing j (mayIn (set now′ s y)) k (planIn plan)) (sym (add-one s))
-            (fixed-standing j (mayIn now) (mayIn (set now′ s y)) s (planIn plan) (w .standing) below (x .none-earlier) n);
-        first = fixed-first j (mayIn now) (mayIn (set now′ s y)) s (planIn plan) (w .standing) below (x .none-earlier) n ∙ w .first;
-      })
-
-  -- the person in hand after a turn that found nobody
-  pub fixed-person : {may now now′ plan plan′ : List ℕ} {r : Bool} → s < j .steps → j .people ≤ 64 → Settled j s may now plan
-      → Bettering j s now now′ plan plan′ r → r ≡ false → planIn plan′ s < 64
-  fixed-person {plan = plan} below people w b e =
-      subst (λ (q : List ℕ). planIn q s < 64) (sym (b .lost e .same)) (standing-person plan (w .standing) below people)
 
 -- a step more is settled
 pub settled-next : {j : Job} {s t : ℕ} {may now now′ plan plan′ : List ℕ} → Settled j s may now plan → Settled j t now now′ plan′ → Settled j t may now′ plan′

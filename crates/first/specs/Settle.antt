@@ -13,25 +13,6 @@ pub record Standing (j : Job) (may : May) (s : ℕ) (π : Plan) : Type 0 where
   pub valid : Valid j may π
   pub fixed : (t p : ℕ) → t < s → may t p ≡ true → p ≡ π t
 
--- somebody earlier does step s in a plan found: permitted people, before and after, and the plans
-pub record Bettered (j : Job) (s : ℕ) (may may′ plan plan′ : List ℕ) : Type 0 where
-  pub standing : Standing j (mayIn may′) s (planIn plan′)
-  pub less : planIn plan′ s < planIn plan s
-  pub first : firstPlan j (mayIn may′) ≡ firstPlan j (mayIn may)
-
--- nobody earlier does step s in a valid plan; only the mask of step s is changed
-pub record Unbettered (j : Job) (s : ℕ) (may may′ plan plan′ : List ℕ) : Type 0 where
-  pub same : plan′ ≡ plan
-  pub others : (t : ℕ) → (t ≡ s → ⊥) → (p : ℕ) → mayIn may′ t p ≡ mayIn may t p
-  pub none-earlier : (σ : Plan) → Valid j (mayIn may) σ → σ s < planIn plan s → ⊥
-
--- what looking for somebody earlier comes to
-pub record Bettering (j : Job) (s : ℕ) (may may′ plan plan′ : List ℕ) (r : Bool) : Type 0 where
-  pub masks : length may′ ≡ 12
-  pub sized : length plan′ ≡ 12
-  pub won : r ≡ true → Bettered j s may may′ plan plan′
-  pub lost : r ≡ false → Unbettered j s may may′ plan plan′
-
 -- a step more is settled
 pub record Settled (j : Job) (s : ℕ) (may may′ plan′ : List ℕ) : Type 0 where
   pub masks : length may′ ≡ 12

@@ -1,7 +1,9 @@
-// The first plan: a plan is taken, and for each step in turn somebody earlier is looked for, until
-// there is nobody, with the steps before fixed.
+// The first plan: a plan is taken, and for each step in turn the first person is looked for who does it in
+// a plan, with the steps before fixed.
 use backtrack::Tried;
 use backtrack::attempt;
+use bits::set::lowest;
+use bits::set::without;
 use levels::Size;
 use search::choose::weights;
 use search::exists::exists;
@@ -11,10 +13,10 @@ ghost use lib.ListN.{length};
 ghost use Rattle.workflow.specs.First.{firstPlan};
 ghost use Rattle.pattern.specs.Tables.{mayIn, planIn, jobIn};
 ghost use Rattle.levels.specs.Given.{Given};
-ghost use Rattle.first.specs.Settle.{Standing, Bettering, Settled, answer};
+ghost use Rattle.first.specs.Settle.{Standing, Settled, answer};
 
 // How many rules the search over people may look at.
-const EFFORT: u32 = 2000;
+const EFFORT: u32 = 500;
 
 // An answer: whether there is a valid plan, and then the first one, a person for each step.
 pub struct Found {
@@ -22,35 +24,8 @@ pub struct Found {
     pub plan: [u8; 12],
 }
 
-// Looks for a plan that has somebody earlier at step `s`. `may` is narrowed to those.
-fn improve(
-    size: Size,
-    class: &[u8; 192],
-    kind: &[u8; 64],
-    level: &[u8; 64],
-    limit: &[u8; 64],
-    scope: &[u16; 64],
-    s: usize,
-    may: &mut [u64; 12],
-    weight: &mut [u32; 12],
-    plan: &mut [u8; 12],
-) -> bool
-    requires { ⌜ Given (size .steps) (size .people) (size .levels) (size .rules) (now class) (now kind) (now level) (now limit) (now scope)
-        × (length (now may) ≡ 12) × (length (now weight) ≡ 12) × (length (now plan) ≡ 12) × (s < size .steps)
-        × Standing (jobIn (size .steps) (size .people) (size .levels) (now class) (size .rules) (now kind) (now level) (now limit) (now scope)) (mayIn (now may)) s (planIn (now plan)) ⌝ }
-    ensures { λ r. ⌜ Bettering (jobIn (size .steps) (size .people) (size .levels) (now (class .entry)) (size .rules) (now (kind .entry)) (now (level .entry)) (now (limit .entry)) (now (scope .entry)))
-        s (now (may .entry)) (now (may .exit)) (now (plan .entry)) (now (plan .exit)) r × (length (now (weight .exit)) ≡ 12) ⌝ }
-{
-    let p = plan[s];
-    let before = may[s] % (1 << p);
-    if before == 0 {
-        return false;
-    }
-    may[s] = before;
-    exists(size, class, kind, level, limit, scope, may, weight, plan)
-}
-
-// Finds the first person of step `s` in a plan, and fixes the step.
+// Finds the first person of step `s` in a plan, and fixes the step: the people before the one in hand are
+// tried in turn. With one person the search is much shorter than with all of them at once.
 fn settle(
     size: Size,
     class: &[u8; 192],
@@ -69,13 +44,17 @@ fn settle(
     ensures { λ _. ⌜ Settled (jobIn (size .steps) (size .people) (size .levels) (now (class .entry)) (size .rules) (now (kind .entry)) (now (level .entry)) (now (limit .entry)) (now (scope .entry)))
         (s + 1) (now (may .entry)) (now (may .exit)) (now (plan .exit)) × (length (now (weight .exit)) ≡ 12) ⌝ }
 {
-    loop {
-        if !improve(size, class, kind, level, limit, scope, s, may, weight, plan) {
-            let p = plan[s];
-            may[s] = 1 << p;
+    let p = plan[s];
+    let mut left = may[s] % (1 << p);
+    while left != 0 {
+        let q = lowest(left);
+        left = without(left, q);
+        may[s] = 1 << q;
+        if exists(size, class, kind, level, limit, scope, may, weight, plan) {
             return;
         }
     }
+    may[s] = 1 << p;
 }
 
 // The first plan, from any plan on.

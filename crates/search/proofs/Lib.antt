@@ -7,3 +7,4 @@ pub mod Ends
 pub mod Attempt
 pub mod Relaxing
 pub mod LowerLimits
+pub mod Opposing

@@ -3,3 +3,4 @@ pub mod Meet
 pub mod State
 pub mod Existence
 pub mod Limits
+pub mod Opposed

@@ -20,8 +20,8 @@ ghost use Rattle.eligible.specs.Rules.{Says};
 ghost use Rattle.levels.specs.Given.{Given};
 ghost use Rattle.search.specs.Existence.{Named, Foremost, AllStaffed, Spread, Existence};
 
-// How many rules the search over people may look at: a tenth of a millisecond's worth.
-const EFFORT: u32 = 2000;
+// How many rules the search over people may look at: some tens of microseconds' worth.
+const EFFORT: u32 = 500;
 
 // The steps that rules name.
 fn named(steps: usize, rules: usize, scope: &[u16; 64]) -> u16

@@ -5,6 +5,7 @@ pub mod find;
 pub mod grow;
 pub mod limits;
 pub mod meet;
+mod opposed;
 pub mod place;
 pub mod thorough;
 mod ways;

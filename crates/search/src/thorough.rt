@@ -1,6 +1,7 @@
 // The search for those jobs that the search over people does not settle: each level by itself first, with
 // what the rules of other levels say of it, and then the patterns of all levels.
 use super::exists::by_patterns;
+use super::opposed::opposed;
 use levels::Size;
 use levels::keep;
 use relax::carry;
@@ -10,6 +11,30 @@ ghost use lib.ListN.{length};
 ghost use Rattle.pattern.specs.Tables.{mayIn, jobIn};
 ghost use Rattle.levels.specs.Given.{Given};
 ghost use Rattle.search.specs.Existence.{Existence, Refuting};
+
+// Whether there is a valid plan, by patterns; `plan` is then one, and else as it was. Rules that exclude each
+// other need no search.
+fn unless_opposed(
+    size: Size,
+    class: &[u8; 192],
+    kind: &[u8; 64],
+    level: &[u8; 64],
+    limit: &[u8; 64],
+    scope: &[u16; 64],
+    may: &[u64; 12],
+    weight: &mut [u32; 12],
+    plan: &mut [u8; 12],
+) -> bool
+    requires { ⌜ Given (size .steps) (size .people) (size .levels) (size .rules) (now class) (now kind) (now level) (now limit) (now scope)
+        × (length (now may) ≡ 12) × (length (now weight) ≡ 12) × (length (now plan) ≡ 12) ⌝ }
+    ensures { λ r. ⌜ Existence (jobIn (size .steps) (size .people) (size .levels) (now (class .entry)) (size .rules) (now (kind .entry)) (now (level .entry)) (now (limit .entry)) (now (scope .entry)))
+        (mayIn (now (may .entry))) (now (plan .entry)) (now (plan .exit)) r × (length (now (weight .exit)) ≡ 12) ⌝ }
+{
+    if opposed(size.steps, size.rules, kind, level, limit, scope) {
+        return false;
+    }
+    by_patterns(size, class, kind, level, limit, scope, may, weight, plan)
+}
 
 // Whether the job relaxed to level `q` has no valid plan: then it has none itself.
 fn refuted(
@@ -42,7 +67,7 @@ fn refuted(
         rules: size.rules,
     };
     let mut plan = [0u8; 12];
-    !by_patterns(
+    !unless_opposed(
         one,
         &row,
         &kinds,
@@ -114,5 +139,5 @@ pub fn thorough(
     if refuted_by_levels(size, class, kind, level, limit, scope, may, weight) {
         return false;
     }
-    by_patterns(size, class, kind, level, limit, scope, may, weight, plan)
+    unless_opposed(size, class, kind, level, limit, scope, may, weight, plan)
 }

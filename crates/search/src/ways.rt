@@ -70,6 +70,9 @@ fn by_rule(
     ensures { λ _. ⌜ length (now (free .exit)) ≡ 36 ⌝ }
 {
     let left = within(scope, placed ^ ANY);
+    if left == 0 {
+        return;
+    }
     let labels = labels_of(within(scope, placed), top, label);
     let groups = number(labels) as usize;
     if groups >= most(kind, limit, steps) {

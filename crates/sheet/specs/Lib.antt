@@ -2,3 +2,4 @@ pub mod Read
 pub mod Answer
 pub mod Cards
 pub mod Readable
+pub mod Slots

@@ -11,6 +11,7 @@ mod clash;
 mod late;
 mod loose;
 mod read;
+pub mod slots;
 mod tables;
 
 pub const MOST_PEOPLE: usize = 64;

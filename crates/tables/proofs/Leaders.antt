@@ -2,16 +2,26 @@
 use mathlib.Core.Bool.{Bool}
 use mathlib.Core.List.{List}
 use mathlib.Core.Path.{_≡_, refl, sym, _∙_, ap, subst}
-use Prim.Native.Nat.{ℕ, zero, suc, _+_, _*_, _-_, _<_, _≤_}
+use Prim.Native.Nat.{ℕ, zero, suc, _+_, _*_, _-_, _%_, _<_, _≤_}
 use native.Mathlib.Omega.{arith}
 use native.Mathlib.Nat.{not-suc-le-zero, zero-add}
 use native.Mathlib.Numerals.{add-one}
+use lib.Dec.{eqb}
 use lib.ListN.{length, getD, set, length-set}
 use lib.Seq.{getD-set-same, getD-set-other}
+use borrow.Author.Tests.{eq-eqb, ne-eqb}
 use Rattle.bits.specs.Below.{first}
-use Rattle.bits.proofs.Below.{below-suc, first-le}
+use Rattle.bits.proofs.Below.{below-suc, first-le, first-unique}
 use Rattle.pattern.specs.Tables.{classIn}
+use Rattle.sheet.specs.Slots.{Foremost}
 use Rattle.tables.specs.Arrays.{ClassesOf, firstWith}
+
+-- where the first person of a slot has the number of somebody there, nobody before has it
+pub leads : (numbers : List ℕ) (people p r : ℕ) → p < people → Foremost numbers p r → getD numbers r 0 ≡ getD numbers p 0 → r ≡ firstWith numbers people p
+leads numbers people p r l w e =
+    sym
+    (first-unique people (λ q. eqb (getD numbers q 0) (getD numbers p 0)) r (omega (arith, w .within)) (λ h. eq-eqb _ _ e)
+    (λ q h. ne-eqb _ _ (λ d. w .before q h (ap (λ (x : ℕ). x % 1024) d))))
 
 pub classes-none : (shop bench : List ℕ) (people : ℕ) (class : List ℕ) → length class ≡ 192 → ClassesOf shop bench people 0 class
 classes-none shop bench people class l =

@@ -10,12 +10,12 @@ refuted-by-levels-requires c κs = search needs
 returns : tie.Need-returns
 returns c = (existence-refuted _ _ _ _ (c .before .before .before .pre .3) (c .before .refuted-by-levels .ensures .0) (c .if1 .taken), c .before .refuted-by-levels .ensures .1)
 
-by-patterns-requires : tie.Need-by-patterns-requires
-by-patterns-requires c κs = search needs
+unless-opposed-requires : tie.Need-unless-opposed-requires
+unless-opposed-requires c κs = search needs
 
 returns-2 : tie.Need-returns-2
 returns-2 c = search needs
 
 pub thorough-spec : {M : Type 1} → statement M
 thorough-spec =
-    tie.close (tie.spec refuted-by-levels-requires returns by-patterns-requires returns-2)
+    tie.close (tie.spec refuted-by-levels-requires returns unless-opposed-requires returns-2)

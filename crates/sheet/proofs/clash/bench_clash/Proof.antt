@@ -1,29 +1,34 @@
--- The invariant: no place passed has the clash. Assumes nothing.
+-- The invariant: no place passed has the clash, and each slot has the first of those passed. Assumes nothing.
 use native.Mathlib.Omega.{arith}
 use Prim.Native.Nat.{_-_}
 use mathlib.Core.Path.{sym, _∙_}
 use Rattle.bits.specs.Below.{any}
 use Rattle.sheet.specs.Cards.{movedAt}
 use Rattle.sheet.specs.Read.{firstClash}
+use Rattle.sheet.specs.Slots.{Firsts}
 use Rattle.bits.proofs.Scan.{Passed, passed-none, passed-more, passed-found, passed-all}
+use Rattle.sheet.proofs.SlotLaws.{firsts-none}
 use Rattle.sheet.proofs.clash.bench_clash.Statement.{statement}
 use Rattle.sheet.proofs.clash.bench_clash.Tie as tie
 
 abbrev Inv-loop : tie.InvT-loop
-Inv-loop benches shops count k₀ k = Passed count (λ i. any i (λ j. movedAt benches shops j i)) k
+Inv-loop benches shops count firsts₀ k₀ firsts k = Passed count (λ i. any i (λ j. movedAt benches shops j i)) k × Firsts benches k firsts
 
 abbrev μ-loop : tie.MeasureT-loop
-μ-loop benches shops count k₀ k = count - k
+μ-loop benches shops count firsts₀ k₀ firsts k = count - k
 
 loop-holds : tie.Need-loop-holds Inv-loop μ-loop
-loop-holds c = passed-none _ _
+loop-holds c = (passed-none _ _, firsts-none _)
 
-bench-stood-requires : tie.Need-bench-stood-requires Inv-loop μ-loop
-bench-stood-requires c κs = omega arith
+bench-again-requires : tie.Need-bench-again-requires Inv-loop μ-loop
+bench-again-requires c κs =
+    let q = c .before .before .before .pre in
+    let i = c .before .before .loop .inv in
+    (omega arith, q .1, q .2, record { each = i .0 .not-yet }, i .1)
 
 returns : tie.Need-returns Inv-loop μ-loop
 unfolding firstClash
-returns c = passed-found _ _ _ (c .before .before .before .loop .inv) (c .before .before .loop-test .taken) (sym (c .before .bench-stood .ensures) ∙ c .if1 .taken)
+returns c = passed-found _ _ _ (c .before .before .before .before .loop .inv .0) (c .before .before .before .loop-test .taken) (sym (c .before .bench-again .ensures .0) ∙ c .if1 .taken)
 
 add-k : tie.Need-add-k Inv-loop μ-loop
 add-k c = omega arith
@@ -32,11 +37,14 @@ loop-less : tie.Need-loop-less Inv-loop μ-loop
 loop-less c = omega arith
 
 loop-again : tie.Need-loop-again Inv-loop μ-loop
-loop-again c = passed-more _ _ _ (c .before .before .before .loop .inv) (c .before .before .loop-test .taken) (sym (c .before .bench-stood .ensures) ∙ c .if1 .left)
+loop-again c = (
+  passed-more _ _ _ (c .before .before .before .before .loop .inv .0) (c .before .before .before .loop-test .taken) (sym (c .before .bench-again .ensures .0) ∙ c .if1 .left),
+  c .before .bench-again .ensures .1,
+)
 
 returns-2 : tie.Need-returns-2 Inv-loop μ-loop
 unfolding firstClash
-returns-2 c = passed-all _ _ _ (c .before .loop .inv) (c .loop-test .left)
+returns-2 c = passed-all _ _ _ (c .before .loop .inv .0) (c .loop-test .left)
 
 pub bench-clash-spec : {M : Type 1} → statement M
 bench-clash-spec =
@@ -45,7 +53,7 @@ bench-clash-spec =
     Inv-loop
     μ-loop
     loop-holds
-    bench-stood-requires
+    bench-again-requires
     returns
     add-k
     loop-less

@@ -1,0 +1,61 @@
+-- Where the first person of the slot has the same bench and the same shop, all earlier ones on that bench have; otherwise the earlier people
+-- are gone through. Assumes nothing.
+use borrow.Author.Needs.{needs}
+use Rattle.sheet.proofs.SlotLaws.{same-shop}
+use Rattle.sheet.proofs.clash.bench_again.Statement.{statement}
+use Rattle.sheet.proofs.clash.bench_again.Tie as tie
+
+first-there-requires : tie.Need-first-there-requires
+first-there-requires c κs = search needs
+
+mul-if1 : tie.Need-mul-if1
+mul-if1 c = search needs
+
+element-copy-out-if1 : tie.Need-element-copy-out-if1
+element-copy-out-if1 c = search needs
+
+mul-if1-2 : tie.Need-mul-if1-2
+mul-if1-2 c = search needs
+
+element-copy-out-if1-2 : tie.Need-element-copy-out-if1-2
+element-copy-out-if1-2 c = search needs
+
+mul-if1-3 : tie.Need-mul-if1-3
+mul-if1-3 c = search needs
+
+element-copy-out-if1-3 : tie.Need-element-copy-out-if1-3
+element-copy-out-if1-3 c = search needs
+
+mul-if1-4 : tie.Need-mul-if1-4
+mul-if1-4 c = search needs
+
+element-copy-out-if1-4 : tie.Need-element-copy-out-if1-4
+element-copy-out-if1-4 c = search needs
+
+returns : tie.Need-returns
+returns c =
+    let e = c .before .before .before .before .before .first-there .ensures in
+    (same-shop _ _ _ (c .before .before .before .before .before .before .before .pre .3) _ (e .0) (c .if1 .taken), e .1)
+
+bench-stood-requires : tie.Need-bench-stood-requires
+bench-stood-requires c κs = search needs
+
+returns-2 : tie.Need-returns-2
+returns-2 c = search needs
+
+pub bench-again-spec : {M : Type 1} → statement M
+bench-again-spec =
+    tie.close
+    (tie.spec
+    first-there-requires
+    mul-if1
+    element-copy-out-if1
+    mul-if1-2
+    element-copy-out-if1-2
+    mul-if1-3
+    element-copy-out-if1-3
+    mul-if1-4
+    element-copy-out-if1-4
+    returns
+    bench-stood-requires
+    returns-2)
