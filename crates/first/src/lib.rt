@@ -25,7 +25,7 @@ pub struct Found {
 }
 
 // Finds the first person of step `s` in a plan, and fixes the step: the people before the one in hand are
-// tried in turn. With one person the search is much shorter than with all of them at once.
+// tried in turn. That asks for more searches than all of them at once, each of them narrower.
 fn settle(
     size: Size,
     class: &[u8; 192],
