@@ -3,14 +3,14 @@
 PREFIX ?= /usr/local
 SHEET ?= crates/planner/stdin
 LIB = target/staticlib/libfulmarinvar.a
-WALKS = target/staticlib/libwalks.a
+PATTERNS = target/patterns/libfulmarinvar.a
 PLANNER = target/bin/planner
 PROVED := $(shell find crates -name '*.rt' -o -name '*.antt') crates.txt
 
 # need TOOL: says what is missing
 need = command -v $(1) > /dev/null || { echo "$(1) is missing: it has to be on the PATH" >&2; exit 1; }
 
-.PHONY: plan test check bench record climb soak install uninstall
+.PHONY: plan test check bench record beside patterns climb soak install uninstall
 
 plan: $(PLANNER)
 	@$(PLANNER) < $(SHEET)
@@ -34,35 +34,41 @@ $(LIB): $(PROVED)
 	@rt staticlib fulmarinvar >&2
 	@touch $@
 
-# The walk of the spare call with a count of its searches: for measurements alone.
-$(WALKS): $(PROVED)
-	@$(call need,rt)
-	@echo "proving and building the walk to be measured: some minutes the first time" >&2
-	@rt staticlib walks >&2
-	@touch $@
-
 BENCH = cargo run --release --offline --quiet --manifest-path bench/Cargo.toml --
 
-# Times of both calls beside a hand-written search, then beside MiniSat, clingo and SAT4J, as far as they are there, then
-# of the spare count without kept plans; the tables, target/measured.csv, target/peers.csv and target/walk.csv.
-bench: $(LIB) $(WALKS)
+# Times of both calls beside a hand-written search, then beside MiniSat, clingo and SAT4J, as far as they are there; the
+# tables, target/measured.csv and target/peers.csv.
+bench: $(LIB)
 	@$(call need,cargo)
 	@$(BENCH) measure target/measured.csv
 	@$(BENCH) peers target/peers.csv
-	@$(BENCH) walk target/walk.csv
 
 # The same into bench/recorded, and what docs/BENCHMARKS.md shows of it.
-record: $(LIB) $(WALKS)
+record: $(LIB)
 	@$(call need,cargo)
 	@$(call need,python3)
 	@mkdir -p bench/recorded
 	@$(BENCH) measure bench/recorded/measured.csv
 	@$(BENCH) peers bench/recorded/peers.csv
-	@$(BENCH) walk bench/recorded/walk.csv
 	@python3 bench/plot --into docs/BENCHMARKS.md
 
+# Both calls of the library beside those of another archive of it, OTHER, on practice and hard sheets: the answers have to be
+# the same. The times go to OUT.
+beside: $(LIB)
+	@$(call need,cargo)
+	@test -n "$(OTHER)" || { echo "name the other archive: make beside OTHER=path/to/libfulmarinvar.a" >&2; exit 1; }
+	@FULMARINVAR_OTHER=$(abspath $(OTHER)) $(BENCH) beside $(or $(OUT),target/beside.csv)
+
+# The library without its search over people, to be set beside the whole: make beside OTHER=target/patterns/libfulmarinvar.a
+patterns: $(PATTERNS)
+
+$(PATTERNS): $(PROVED) bench/patterns
+	@$(call need,rt)
+	@echo "proving and building the library without its search over people: some minutes" >&2
+	@bash bench/patterns >&2
+
 # Looks for sheets that make the planner slow, for SECONDS seconds, from SEED on; the worst go to target/hard.
-climb: $(LIB) $(WALKS)
+climb: $(LIB)
 	@$(call need,cargo)
 	@$(BENCH) climb target/hard --seconds $(or $(SECONDS),300) --seed $(or $(SEED),1)
 

@@ -1,12 +1,13 @@
 """Tables and plots from recorded files.
 
-usage: python3 bench/plot [--measured CSV] [--peers CSV] [--walk CSV] [--plots DIR] [--into FILE]
+usage: python3 bench/plot [--measured CSV] [--peers CSV] [--patterns CSV] [--walk CSV] [--plots DIR] [--into FILE]
   --measured  from 'bench measure', bench/recorded/measured.csv unless given
   --peers     from 'bench peers', bench/recorded/peers.csv unless given
-  --walk      from 'bench walk', bench/recorded/walk.csv unless given
+  --patterns  from 'bench beside' with the library of bench/patterns, bench/recorded/patterns.csv unless given
+  --walk      of an earlier build that counted its searches, bench/recorded/walk.csv unless given
   --plots     where the plots go, docs/plots unless given
   --into      a text that has a line '<!-- NAME -->' before and '<!-- end NAME -->' after the place of a table; without it
-              the tables are printed. The names are practice, others, peers, slower, walk
+              the tables are printed. The names are practice, others, peers, slower, patterns, walk
 A file that is missing is left out.
 """
 
@@ -28,6 +29,7 @@ def arguments():
     parser = argparse.ArgumentParser(description="Tables and plots from recorded files.")
     parser.add_argument("--measured", type=Path, default=ROOT / "bench/recorded/measured.csv")
     parser.add_argument("--peers", type=Path, default=ROOT / "bench/recorded/peers.csv")
+    parser.add_argument("--patterns", type=Path, default=ROOT / "bench/recorded/patterns.csv")
     parser.add_argument("--walk", type=Path, default=ROOT / "bench/recorded/walk.csv")
     parser.add_argument("--plots", type=Path, default=ROOT / "docs/plots")
     parser.add_argument("--into", type=Path)
@@ -41,7 +43,7 @@ def record(path):
     return None
 
 
-def made(measured, peers, walk):
+def made(measured, peers, patterns, walk):
     """Tables by name and plots by file."""
     named, drawn = {}, {}
     if measured:
@@ -56,8 +58,11 @@ def made(measured, peers, walk):
         named["slower"] = tables.slower_than(peers)
         for solver in TIME_OF:
             drawn[f"against-{solver}.svg"] = plots.against_peer(peers, solver)
+    if patterns:
+        named["patterns"] = f"{patterns.origin()}\n\n{tables.patterns(patterns)}"
     if walk:
-        named["walk"] = f"{walk.origin()}\n\n{tables.walk(walk)}"
+        # The command of this record is no longer there.
+        named["walk"] = f"{walk.origin(command=False)}\n\n{tables.walk(walk)}"
     return named, drawn
 
 
@@ -72,7 +77,7 @@ def put(text, name, table):
 
 def main():
     given = arguments()
-    named, drawn = made(record(given.measured), record(given.peers), record(given.walk))
+    named, drawn = made(*map(record, (given.measured, given.peers, given.patterns, given.walk)))
     given.plots.mkdir(parents=True, exist_ok=True)
     for file, svg in drawn.items():
         if svg:

@@ -34,18 +34,20 @@ class Record:
     def of(self, **wanted):
         return [row for row in self.rows if all(row[name] == value for name, value in wanted.items())]
 
-    def origin(self):
-        """Where, when and how, in a line."""
+    def origin(self, command=True):
+        """Where, when and, if its command is still there, how, in a line."""
         known = [self.facts[name] for name in ("machine", "date") if name in self.facts]
-        command = f"`{self.facts['command']}`" if "command" in self.facts else ""
-        return "; ".join(known + [command] if command else known)
+        if command and "command" in self.facts:
+            known.append(f"`{self.facts['command']}`")
+        return "; ".join(known)
 
 
 def family(group):
+    """A group that is in none is a family of its own."""
     for name, starts in FAMILIES:
         if any(group == start or group.startswith(start + "-") for start in starts):
             return name
-    return "other"
+    return group
 
 
 def number(row, column):

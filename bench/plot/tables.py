@@ -1,14 +1,18 @@
-"""Markdown tables. Times are in microseconds."""
+"""Markdown tables. Times are in microseconds; they and their ratios have two significant digits."""
 
 import math
 
 from records import LIBRARY_FOR, TIME_OF, at, family, median, micros, number, practice_rules
 
 
+def digits(value):
+    """Two significant digits: more would not be the same in another run."""
+    exponent = int(f"{value:.1e}".split("e")[1])
+    return f"{round(value, 1 - exponent):,.{max(1 - exponent, 0)}f}"
+
+
 def time(value):
-    if math.isinf(value):
-        return "late"
-    return f"{value:,.1f}" if value < 100 else f"{value:,.0f}"
+    return "late" if math.isinf(value) else digits(value)
 
 
 def count(value):
@@ -16,7 +20,7 @@ def count(value):
 
 
 def ratio(ours, theirs):
-    return "-" if math.isinf(ours) or math.isinf(theirs) or theirs == 0 else f"{ours / theirs:.2f}"
+    return "-" if math.isinf(ours) or math.isinf(theirs) or theirs == 0 else digits(ours / theirs)
 
 
 def table(heading, rows):
@@ -34,6 +38,11 @@ def numbers(rows, name):
 
 def with_plan(rows):
     return [row for row in rows if row["plan"] == "yes"]
+
+
+def by_plan(name, rows):
+    """The sheets that have a plan, and those that have none."""
+    return [(f"{name}, with a plan", with_plan(rows)), (f"{name}, none", [row for row in rows if row["plan"] == "no"])]
 
 
 def measured(rows, name):
@@ -59,15 +68,21 @@ def measured_table(title, named):
     return table(heading, [measured(rows, name) for name, rows in named if rows])
 
 
-def practice(record):
+def by_rules(record):
+    """The practice sheets of full size for each number of rules, with its name; then all of them."""
     groups = [group for group in record.groups() if practice_rules(group) is not None]
-    named = [(str(practice_rules(group)), record.of(group=group)) for group in groups]
-    between = [row for row in record.rows if practice_rules(row["group"]) in range(4, 15)]
     every = [row for row in record.rows if practice_rules(row["group"]) is not None]
-    whole = record.of(group="practice-range")
-    named += [("4 to 14", between), ("all of these", every), ("any size", whole)]
-    named += [("4 to 14, with a plan", with_plan(between)), ("4 to 14, none", [r for r in between if r["plan"] == "no"])]
-    return measured_table("rules", named)
+    return [(str(practice_rules(group)), record.of(group=group)) for group in groups] + [("all of these", every)]
+
+
+def any_size(record):
+    return "any size", record.of(group="practice-range")
+
+
+def practice(record):
+    *numbers, every = by_rules(record)
+    between = [row for row in record.rows if practice_rules(row["group"]) in range(4, 15)]
+    return measured_table("rules", [*numbers, ("4 to 14", between), every, any_size(record), *by_plan("4 to 14", between)])
 
 
 def others(record):
@@ -76,21 +91,23 @@ def others(record):
 
 
 def peers(record):
-    """A row for each solver, question and group. The ratio is that of library to own, and to wall for SAT4J."""
+    """A row for each solver, question and family. The ratio is that of library to own, and to wall for SAT4J."""
     heading = [
         "sheets of", "solver", "asked for", "sheets", "library median", "worst", "wall median", "worst", "own median",
         "worst", "ratio of medians", "late", "different",
     ]
     lines = []
     keys = list(dict.fromkeys((row["solver"], row["question"]) for row in record.rows))
+    families = list(dict.fromkeys(map(family, record.groups())))
     for solver, question in keys:
-        for group in record.groups():
-            rows = record.of(group=group, solver=solver, question=question)
+        asked = record.of(solver=solver, question=question)
+        for name in families:
+            rows = [row for row in asked if family(row["group"]) == name]
             if not rows:
                 continue
             ours, wall, own = (column(rows, name) for name in (LIBRARY_FOR[question], "wall_ns", "own_ns"))
             lines.append([
-                group, solver, "first plan" if question == "first" else "any plan", str(len(rows)),
+                name, solver, "first plan" if question == "first" else "any plan", str(len(rows)),
                 time(median(ours)), time(max(ours)), time(median(wall)), time(max(wall)),
                 time(median(own)), time(max(own)), ratio(median(ours), median(column(rows, TIME_OF[solver]))),
                 str(sum(map(math.isinf, own))), str(sum(row["agrees"] == "no" for row in rows)),
@@ -116,9 +133,8 @@ def walk(record):
     heading = ["rules", "sheets with a plan"]
     for name in ("kept", "without"):
         heading += [f"{name}, searches: median", "p99", "worst", f"{name}, time: median", "p99", "worst", "late"]
-    groups = [(str(practice_rules(group)), record.of(group=group)) for group in record.groups()]
     lines = []
-    for name, rows in [*groups, ("all of these", record.rows)]:
+    for name, rows in by_rules(record):
         line = [name, str(len(rows))]
         for of in ("kept", "without"):
             searches, times = numbers(rows, f"{of}_searches"), column(rows, f"{of}_ns")
@@ -129,3 +145,26 @@ def walk(record):
         different = sum(row["differences"] != "" for row in rows)
         lines.append([*line, time(median(spare)), time(max(spare)), str(different)])
     return table([*heading, "spare call median", "worst", "different"], lines)
+
+
+def mean_ratio(ours, theirs):
+    """The geometric mean of the ratios, as far as both have ended."""
+    logs = [math.log(one / other) for one, other in zip(ours, theirs) if not math.isinf(one + other)]
+    return digits(math.exp(sum(logs) / len(logs))) if logs else "-"
+
+
+def patterns(record):
+    """Both calls of the whole library beside those of the one without its search over people."""
+    heading = ["rules", "sheets", "with a plan"]
+    for call in ("crew", "spare (cap 3)"):
+        heading += [f"{call}, whole: median", "worst", "patterns alone: median", "worst", "ratio"]
+    *numbers, every = by_rules(record)
+    lines = []
+    for name, rows in [*numbers, every, *by_plan(*every), any_size(record), ("hard", record.of(group="hard"))]:
+        line = [name, str(len(rows)), str(len(with_plan(rows)))]
+        for call in ("crew", "spare"):
+            whole, alone = column(rows, f"{call}_ns"), column(rows, f"other_{call}_ns")
+            line += [time(value) for value in (median(whole), max(whole), median(alone), max(alone))]
+            line.append(mean_ratio(whole, alone))
+        lines.append(line)
+    return table(heading, lines)

@@ -1,7 +1,8 @@
 //! The spare count by the hand-written search.
 
 use crate::baseline::{plan, Found, Order};
-use crate::problem::{Problem, MOST_PEOPLE};
+use crate::problem::Problem;
+use model::job::MOST_PEOPLE;
 use std::time::Instant;
 
 /// How many plans are kept.

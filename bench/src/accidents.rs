@@ -1,28 +1,20 @@
 //! Jobs such as a slip on the sheet makes: impossible, and hard to see so for a search that tries people.
 
-use sheet_tests::builder::{person, rule, step};
-use sheet_tests::model::{Job, Rule};
-use sheet_tests::random::Random;
+use model::builder::{person, rule, step};
+use model::job::{
+    Job, Rule, AT_LEAST, AT_MOST, BY_BENCH, BY_PERSON, BY_SHOP, DIFFERENT, MOST_PEOPLE, MOST_STEPS, SAME,
+};
+use model::jobs::any_level;
+use model::random::Random;
 
-const STEPS: usize = 12;
-const PEOPLE: usize = 64;
-const EVERY_STEP: u16 = 0x0FFF;
-
-const SAME: u8 = 1;
-const DIFFERENT: u8 = 2;
-const AT_MOST: u8 = 3;
-const AT_LEAST: u8 = 4;
-
-const BY_SHOP: u8 = 1;
-const BY_BENCH: u8 = 2;
-const BY_PERSON: u8 = 3;
+const EVERY_STEP: u16 = (1 << MOST_STEPS) - 1;
 
 /// Everybody permitted everything, on so many benches in so many shops.
 fn open_job(shops: usize, benches: usize, rules: Vec<Rule>) -> Job {
     let at = |i: usize| (1 + (i % benches % shops) as u16, 1 + (i % benches) as u16);
     Job {
-        people: (0..PEOPLE).map(|i| person(100 + i as u32, at(i).0, at(i).1, EVERY_STEP)).collect(),
-        steps: (0..STEPS).map(|j| step(1 + j as u32)).collect(),
+        people: (0..MOST_PEOPLE).map(|i| person(100 + i as u32, at(i).0, at(i).1, EVERY_STEP)).collect(),
+        steps: (0..MOST_STEPS).map(|j| step(1 + j as u32)).collect(),
         rules,
     }
 }
@@ -49,21 +41,21 @@ fn easy(random: &mut Random, most: usize, count: usize) -> Vec<Rule> {
 
 /// Same at a level and different at that level or a coarser one, on the last two steps.
 pub fn contradiction(random: &mut Random) -> Job {
-    let fine = random.within(1, 3) as u8;
-    let coarse = random.within(1, fine.into()) as u8;
+    let fine = any_level(random);
+    let coarse = random.within(BY_SHOP.into(), fine.into()) as u8;
     let count = random.within(3, 20);
-    let mut rules = easy(random, STEPS - 2, count);
-    rules.push(pair(SAME, fine, STEPS - 2, STEPS - 1));
-    rules.push(pair(DIFFERENT, coarse, STEPS - 2, STEPS - 1));
+    let mut rules = easy(random, MOST_STEPS - 2, count);
+    rules.push(pair(SAME, fine, MOST_STEPS - 2, MOST_STEPS - 1));
+    rules.push(pair(DIFFERENT, coarse, MOST_STEPS - 2, MOST_STEPS - 1));
     open_job(4, 8, rules)
 }
 
 /// At least five shops where there are four.
 pub fn fifth_shop(random: &mut Random) -> Job {
-    let size = random.within(5, STEPS);
-    let scope = random.order(STEPS)[..size].iter().map(|s| 1 << (s - 1)).sum();
+    let size = random.within(5, MOST_STEPS);
+    let scope = random.order(MOST_STEPS)[..size].iter().map(|s| 1 << (s - 1)).sum();
     let count = random.below(12);
-    let mut rules = easy(random, STEPS, count);
+    let mut rules = easy(random, MOST_STEPS, count);
     rules.push(rule(AT_LEAST, BY_SHOP, 5, scope));
     open_job(4, random.within(4, 16), rules)
 }
@@ -71,9 +63,9 @@ pub fn fifth_shop(random: &mut Random) -> Job {
 /// Twelve steps pairwise on different benches, of which there are eleven. A sheet holds 64 of the 66 pairs, so that one
 /// rule over three steps stands for three of them.
 pub fn eleven_benches(random: &mut Random) -> Job {
-    let order: Vec<usize> = random.order(STEPS).into_iter().map(|s| s - 1).collect();
+    let order: Vec<usize> = random.order(MOST_STEPS).into_iter().map(|s| s - 1).collect();
     let mut rules = vec![rule(AT_LEAST, BY_BENCH, 3, 1 << order[0] | 1 << order[1] | 1 << order[2])];
-    for b in 3..STEPS {
+    for b in 3..MOST_STEPS {
         rules.extend((0..b).map(|a| pair(DIFFERENT, BY_BENCH, order[a], order[b])));
     }
     open_job(random.within(1, 4), 11, rules)
@@ -82,8 +74,8 @@ pub fn eleven_benches(random: &mut Random) -> Job {
 /// The same in one rule.
 pub fn eleven_benches_at_once(random: &mut Random) -> Job {
     let count = random.below(12);
-    let mut rules = easy(random, STEPS, count);
-    rules.push(rule(AT_LEAST, BY_BENCH, STEPS as u8, EVERY_STEP));
+    let mut rules = easy(random, MOST_STEPS, count);
+    rules.push(rule(AT_LEAST, BY_BENCH, MOST_STEPS as u8, EVERY_STEP));
     open_job(random.within(1, 4), 11, rules)
 }
 
@@ -91,7 +83,7 @@ pub fn eleven_benches_at_once(random: &mut Random) -> Job {
 pub fn last_part(random: &mut Random) -> Job {
     let mut rules = vec![];
     for part in [0, 4] {
-        let level = random.within(2, 3) as u8;
+        let level = random.within(BY_BENCH.into(), BY_PERSON.into()) as u8;
         rules.push(rule(AT_LEAST, level, 3, 0b1111 << part));
         rules.push(rule(AT_MOST, BY_SHOP, 2, 0b1111 << part));
     }

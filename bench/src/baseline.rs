@@ -1,7 +1,8 @@
 //! A hand-written backtracking search, to set the library against. It is given the job already read.
 
 use crate::narrow::narrow;
-use crate::problem::{Domains, Problem, MOST_STEPS};
+use crate::problem::{Domains, Problem};
+use model::job::MOST_STEPS;
 use std::time::Instant;
 
 /// For each step the person, by the place in crew order.
@@ -88,9 +89,11 @@ pub fn plan(problem: &Problem, away: u64, order: Order, until: Instant) -> Found
 mod tests {
     use super::*;
     use crate::absences::spare;
-    use sheet_tests::jobs::small_job;
-    use sheet_tests::plans;
-    use sheet_tests::random::Random;
+    use crate::measure::CAP;
+    use model::job::MOST_PEOPLE;
+    use model::jobs::small_job;
+    use model::plans;
+    use model::random::Random;
     use std::time::Duration;
 
     #[test]
@@ -107,13 +110,14 @@ mod tests {
             };
             assert_eq!(first, plans::first_plan(&job, &[]));
             assert_eq!(matches!(plan(&problem, 0, Order::Fewest, until), Found::Some(_)), first.is_some());
-            let counted = match spare(&problem, 3, until) {
-                Found::Some((count, away)) => {
-                    Some(plans::Spare { count, away: (0..64).filter(|person| away >> person & 1 == 1).collect() })
-                }
+            let counted = match spare(&problem, CAP, until) {
+                Found::Some((count, away)) => Some(plans::Spare {
+                    count,
+                    away: (0..MOST_PEOPLE).filter(|person| away >> person & 1 == 1).collect(),
+                }),
                 _ => None,
             };
-            assert_eq!(counted, plans::spare(&job, 3));
+            assert_eq!(counted, plans::spare(&job, CAP));
         }
     }
 }

@@ -1,7 +1,7 @@
 //! The library beside the hand-written search, over all groups.
 
 use crate::measure::{measure, Limits};
-use crate::options::{has_option, option};
+use crate::options::{self, option, Run};
 use crate::worker::Worker;
 use crate::{groups, record, table};
 use std::io::{self, Write};
@@ -18,34 +18,29 @@ for the first plan and for any plan, and 'hand' is its spare count, the job alre
 time.";
 
 pub struct Order {
-    csv: String,
-    sheets: u32,
-    limits: Limits,
-    groups: Vec<String>,
+    run: Run,
+    /// The longest that a hand-written search may take.
+    hand: Duration,
 }
 
 pub fn order(mut args: Vec<String>) -> Option<Order> {
-    let sheets = option(&mut args, "--sheets", 60)?;
     let hand = Duration::from_millis(option(&mut args, "--limit-ms", 100)?);
-    let library = Duration::from_millis(option(&mut args, "--late-ms", 1_000)?);
-    if args.is_empty() || sheets == 0 || has_option(&args) {
-        return None;
-    }
-    let csv = args.remove(0);
-    Some(Order { csv, sheets, limits: Limits { library, hand }, groups: args })
+    Some(Order { run: options::run(args, 60)?, hand })
 }
 
 /// How many sheets got different answers.
 pub fn run(order: &Order) -> io::Result<usize> {
-    let mut csv = record::create(&order.csv, &[])?;
+    let Order { run, hand } = order;
+    let limits = Limits { library: run.late, hand: *hand };
+    let mut csv = record::create(&run.csv, &[])?;
     writeln!(csv, "{}", table::CSV_HEADING)?;
     println!("{}", table::heading());
     let mut worker = Worker::new();
     let mut differing = 0;
-    for group in groups::meant(&order.groups) {
+    for group in groups::meant(&run.groups) {
         let mut all = vec![];
-        for sheet in 1..=order.sheets.min(group.sheets) {
-            let one = measure(&mut worker, &(group.job)(sheet), order.limits)?;
+        for sheet in 1..=run.sheets.min(group.sheets) {
+            let one = measure(&mut worker, &(group.job)(sheet), limits)?;
             writeln!(csv, "{}", table::csv_line(&group.name, sheet, &one))?;
             if !one.differences.is_empty() {
                 println!("DIFFERENT {} {sheet}: {}", group.name, one.differences.join(" and "));

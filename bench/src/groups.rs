@@ -1,12 +1,15 @@
 //! The groups of sheets that are measured.
 
 use crate::{accidents, hard, randoms};
-use sheet_tests::model::{Job, MOST_PEOPLE, MOST_STEPS};
-use sheet_tests::random::Random;
-use sheet_tests::recipe::practice_job;
+use model::job::{Job, MOST_PEOPLE, MOST_STEPS};
+use model::random::Random;
+use model::recipe::practice_job;
 
 /// The rules of practice sheets of full size, a group for each.
 const PRACTICE_RULES: [usize; 12] = [0, 2, 4, 6, 8, 10, 12, 14, 20, 32, 48, 64];
+
+/// What the names of practice groups begin with.
+pub const PRACTICE: &str = "practice";
 
 /// The group of kept sheets.
 pub const HARD: &str = "hard";
@@ -19,9 +22,22 @@ pub struct Group {
     /// How many sheets there are; where they are made from their numbers there is no end.
     pub sheets: u32,
     pub job: Jobs,
+    /// Of kept sheets, in their order; those that are made have none.
+    names: Vec<String>,
 }
 
 impl Group {
+    /// Sheets that are made from their numbers.
+    fn made(name: &str, job: impl Fn(u32) -> Job + 'static) -> Group {
+        Group { name: name.to_string(), sheets: u32::MAX, job: Box::new(job), names: vec![] }
+    }
+
+    /// What a sheet is called.
+    pub fn title(&self, number: u32) -> String {
+        let own = self.names.get(number as usize - 1).cloned();
+        format!("{} {}", self.name, own.unwrap_or(number.to_string()))
+    }
+
     /// Whether a name given for the group means it: its own, or the beginning that it shares with others.
     pub fn is_meant_by(&self, name: &str) -> bool {
         self.name == name || self.name.starts_with(&format!("{name}-"))
@@ -29,34 +45,28 @@ impl Group {
 }
 
 fn practice_group(rules: usize) -> Group {
-    let job = move |start| practice_job(start, MOST_STEPS, MOST_PEOPLE, rules);
-    Group { name: format!("practice-{rules}"), sheets: u32::MAX, job: Box::new(job) }
+    Group::made(&format!("{PRACTICE}-{rules}"), move |start| practice_job(start, MOST_STEPS, MOST_PEOPLE, rules))
 }
 
 fn random_group(name: &str, job: fn(&mut Random) -> Job) -> Group {
-    let job = move |number: u32| job(&mut Random::new(number.into()));
-    Group { name: name.to_string(), sheets: u32::MAX, job: Box::new(job) }
+    Group::made(name, move |number| job(&mut Random::new(number.into())))
 }
 
 /// What was found by the climb and kept.
 fn hard_group() -> Group {
-    let jobs: Vec<Job> = hard::kept().into_iter().map(|(_, job)| job).collect();
+    let (names, jobs): (Vec<String>, Vec<Job>) = hard::kept().into_iter().unzip();
     let sheets = jobs.len() as u32;
-    Group { name: HARD.to_string(), sheets, job: Box::new(move |number| jobs[number as usize - 1].clone()) }
+    Group { name: HARD.to_string(), sheets, job: Box::new(move |number| jobs[number as usize - 1].clone()), names }
 }
 
 /// The practice sheets of full size.
-pub fn full_practice() -> Vec<Group> {
+fn full_practice() -> Vec<Group> {
     PRACTICE_RULES.into_iter().map(practice_group).collect()
 }
 
 pub fn all() -> Vec<Group> {
     let mut groups = full_practice();
-    groups.push(Group {
-        name: "practice-range".to_string(),
-        sheets: u32::MAX,
-        job: Box::new(randoms::practice_of_any_size),
-    });
+    groups.push(Group::made(&format!("{PRACTICE}-range"), randoms::practice_of_any_size));
     groups.extend([
         random_group("four-kinds-few", |random| randoms::practice_people(random, 1, 8)),
         random_group("four-kinds-many", |random| randoms::practice_people(random, 9, 64)),
@@ -84,8 +94,8 @@ pub fn meant(names: &[String]) -> Vec<Group> {
 #[cfg(test)]
 mod tests {
     use super::*;
-    use sheet_tests::builder::lay;
-    use sheet_tests::model::read;
+    use model::builder::lay;
+    use model::reader::read;
     use std::collections::HashSet;
 
     #[test]
@@ -104,6 +114,13 @@ mod tests {
             let job = (group.job)(1);
             assert_eq!((job.steps.len(), job.people.len()), (MOST_STEPS, MOST_PEOPLE), "{}", group.name);
         }
+    }
+
+    #[test]
+    fn kept_sheets_are_called_by_their_names() {
+        let titles = |name: &str| meant(&[name.to_string()])[0].title(2);
+        assert_eq!(titles("practice-8"), "practice-8 2");
+        assert_eq!(titles(HARD), format!("hard {}", hard::kept()[1].0));
     }
 
     #[test]

@@ -1,7 +1,7 @@
 //! The hard sheets that are kept, as the companion's text: lines that begin with # say how each was found.
 
+use model::job::Job;
 use sheet::{pack, show};
-use sheet_tests::model::Job;
 use std::fs;
 use std::io;
 use std::path::{Path, PathBuf};
@@ -54,8 +54,8 @@ pub fn remove(folder: &Path, name: &str) -> io::Result<()> {
 #[cfg(test)]
 mod tests {
     use super::*;
-    use sheet_tests::jobs::good_job;
-    use sheet_tests::random::Random;
+    use model::jobs::good_job;
+    use model::random::Random;
 
     #[test]
     fn what_is_stored_reads_back() {

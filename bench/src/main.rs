@@ -3,6 +3,8 @@
 mod absences;
 mod accidents;
 mod baseline;
+mod beside;
+mod builds;
 mod climb;
 mod clock;
 mod compare;
@@ -16,7 +18,6 @@ mod problem;
 mod randoms;
 mod record;
 mod table;
-mod walk;
 mod worker;
 
 use std::env;
@@ -45,9 +46,9 @@ fn run(mut args: Vec<String>) -> io::Result<End> {
     }
     match args.remove(0).as_str() {
         "measure" => compare::order(args).map_or(Ok(End::Misused), |order| compare::run(&order).map(differences)),
+        "beside" => beside::order(args).map_or(Ok(End::Misused), |order| beside::run(&order).map(differences)),
         "climb" => climb::order(args).map_or(Ok(End::Misused), |order| climb::run(&order).map(|()| End::Done)),
         "peers" => peers::order(args).map_or(Ok(End::Misused), |order| peers::run(&order).map(differences)),
-        "walk" => walk::order(args).map_or(Ok(End::Misused), |order| walk::run(&order).map(differences)),
         worker::COMMAND => worker::serve().map(|()| End::Done),
         _ => Ok(End::Misused),
     }
@@ -61,7 +62,7 @@ fn main() -> ExitCode {
             ExitCode::FAILURE
         }
         Ok(End::Misused) => {
-            eprintln!("usage: {}", [compare::USAGE, peers::USAGE, walk::USAGE, climb::USAGE].join("\n\n"));
+            eprintln!("usage: {}", [compare::USAGE, peers::USAGE, beside::USAGE, climb::USAGE].join("\n\n"));
             ExitCode::from(2)
         }
         Err(error) => {

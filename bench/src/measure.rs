@@ -2,17 +2,20 @@
 
 use crate::absences::spare;
 use crate::baseline::{plan, Found, Order, Plan};
+use crate::builds::Which;
 use crate::clock::{timed, Nanos};
 use crate::problem::Problem;
 use crate::worker::Worker;
-use sheet_tests::answers::{crew_bytes, room, spare_bytes, Call, NO_PLAN, STEP_BYTES};
-use sheet_tests::builder::lay;
-use sheet_tests::model::Job;
-use sheet_tests::plans::is_valid;
+use model::answers::{crew_bytes, room, spare_bytes, Call, MOST_CAP, STEP_BYTES};
+use model::builder::lay;
+use model::job::Job;
+use model::plans::is_valid;
+use model::refusal::is_no_plan;
 use std::io;
 use std::time::{Duration, Instant};
 
-pub const CAP: usize = 3;
+/// The cap of every spare count that is measured.
+pub const CAP: usize = MOST_CAP as usize;
 
 /// The longest that one call may take.
 #[derive(Clone, Copy)]
@@ -47,7 +50,7 @@ fn searched<T: Copy>(limit: Duration, run: impl Fn(Instant) -> Found<T>) -> (Fou
 pub type Answer = Option<(u32, Vec<u8>)>;
 
 pub fn called(worker: &mut Worker, call: Call, job: &Job, limit: Duration) -> io::Result<(Answer, Nanos)> {
-    let Some(called) = worker.call(call, &lay(job).bytes, limit)? else {
+    let Some(called) = worker.call(Which::This, call, &lay(job).bytes, limit)? else {
         return Ok((None, None));
     };
     let written = if called.number == 0 { called.area[..room(call, job)].to_vec() } else { vec![] };
@@ -79,8 +82,8 @@ fn agrees<T>(answer: &Answer, found: Found<T>, bytes: impl Fn(T) -> Vec<u8>) -> 
     };
     match found {
         Found::Some(found) => *answer == (0, bytes(found)),
-        Found::None => answer.0 == NO_PLAN * 256,
-        Found::Unfinished => answer.0 == 0 || answer.0 == NO_PLAN * 256,
+        Found::None => is_no_plan(answer.0),
+        Found::Unfinished => answer.0 == 0 || is_no_plan(answer.0),
     }
 }
 
@@ -103,7 +106,7 @@ fn has_plan(answer: &Answer, found: Found<Plan>) -> Option<bool> {
 
 pub fn measure(worker: &mut Worker, job: &Job, limits: Limits) -> io::Result<Measured> {
     let (crew_answer, crew) = called(worker, Call::Crew, job, limits.library)?;
-    let (spare_answer, spare_time) = called(worker, Call::Spare { cap: CAP as u32 }, job, limits.library)?;
+    let (spare_answer, spare_time) = called(worker, Call::Spare { cap: MOST_CAP }, job, limits.library)?;
 
     let limit = limits.hand;
     let (found_first, first) = searched(limit, |until| plan(&Problem::new(job), 0, Order::Chain, until));

@@ -1,13 +1,10 @@
 //! The job as the hand-written search holds it: people as bits of a word, and rules as pairs or as counts.
 
-use sheet_tests::model::{Job, Person, Rule};
+use model::job::{
+    steps_of, Job, Person, Rule, AT_MOST, BY_BENCH, BY_PERSON, BY_SHOP, DIFFERENT, MOST_PEOPLE, MOST_STEPS, SAME,
+};
 
-pub const MOST_STEPS: usize = 12;
-pub const MOST_PEOPLE: usize = 64;
-const LEVELS: usize = 3;
-const SHOP: usize = 0;
-const BENCH: usize = 1;
-const PERSON: usize = 2;
+const LEVELS: usize = BY_PERSON as usize;
 
 /// The people who may still do each step.
 pub type Domains = [u64; MOST_STEPS];
@@ -37,15 +34,16 @@ pub struct Problem {
     pub counts: Vec<Count>,
 }
 
-fn steps_of(scope: u16) -> Vec<usize> {
-    (0..MOST_STEPS).filter(|step| scope >> step & 1 == 1).collect()
+/// The place of a level in the arrays.
+fn place(level: u8) -> usize {
+    usize::from(level) - 1
 }
 
 fn bounds(rule: &Rule, size: usize) -> (usize, usize) {
     match rule.kind {
-        1 => (1, 1),
-        2 => (2, 2),
-        3 => (1, rule.limit.into()),
+        SAME => (1, 1),
+        DIFFERENT => (2, 2),
+        AT_MOST => (1, rule.limit.into()),
         _ => (rule.limit.into(), size),
     }
 }
@@ -79,10 +77,10 @@ impl Problem {
             for step in 0..problem.steps {
                 problem.may[step] |= u64::from(person.permitted >> step & 1) << p;
             }
-            problem.class[PERSON][p] = 1 << p;
+            problem.class[place(BY_PERSON)][p] = 1 << p;
         }
-        problem.class[SHOP] = classes(job, |person| person.shop);
-        problem.class[BENCH] = classes(job, |person| person.bench);
+        problem.class[place(BY_SHOP)] = classes(job, |person| person.shop);
+        problem.class[place(BY_BENCH)] = classes(job, |person| person.bench);
         for rule in &job.rules {
             problem.add(rule);
         }
@@ -91,8 +89,8 @@ impl Problem {
 
     /// A rule over two steps is a pair whatever its kind; one that every plan meets is left out.
     fn add(&mut self, rule: &Rule) {
-        let level = usize::from(rule.level) - 1;
-        let scope = steps_of(rule.scope);
+        let level = place(rule.level);
+        let scope: Vec<usize> = steps_of(rule.scope).collect();
         let size = scope.len();
         match (bounds(rule, size), size) {
             ((1, high), _) if high == size => {}

@@ -1,10 +1,10 @@
 //! Random jobs: practice sheets of any size, and rules of all four kinds over people permitted much or little.
 
-use sheet_tests::builder::{person, step};
-use sheet_tests::jobs::{job_of, random_rule};
-use sheet_tests::model::{Job, MOST_PEOPLE, MOST_RULES, MOST_STEPS};
-use sheet_tests::random::Random;
-use sheet_tests::recipe::practice_job;
+use model::builder::{person, step};
+use model::job::{Job, MOST_PEOPLE, MOST_RULES, MOST_STEPS};
+use model::jobs::{job_of, random_rule};
+use model::random::Random;
+use model::recipe::practice_job;
 
 const FEWEST_STEPS: usize = 2;
 
@@ -72,8 +72,10 @@ mod tests {
     fn practice_sheets_reach_every_end_of_the_range() {
         let jobs: Vec<Job> = (1..=400).map(practice_of_any_size).collect();
         let met = |size: fn(&Job) -> usize| jobs.iter().map(size).collect::<BTreeSet<_>>();
-        assert_eq!(met(|job| job.steps.len()), (2..=12).collect());
-        for (sizes, least, most) in [(met(|job| job.people.len()), 1, 64), (met(|job| job.rules.len()), 0, 64)] {
+        assert_eq!(met(|job| job.steps.len()), (FEWEST_STEPS..=MOST_STEPS).collect());
+        for (sizes, least, most) in
+            [(met(|job| job.people.len()), 1, MOST_PEOPLE), (met(|job| job.rules.len()), 0, MOST_RULES)]
+        {
             assert_eq!((sizes.first(), sizes.last()), (Some(&least), Some(&most)));
             assert!(sizes.len() > 60);
         }

@@ -14,9 +14,9 @@ pub struct Figures {
     pub unfinished: usize,
 }
 
-/// What is missing did not finish: it counts as worse than all others, so that no figure looks better for it.
-pub fn spread(values: impl Iterator<Item = Option<f64>>) -> Figures {
-    let mut sorted: Vec<f64> = values.map(|value| value.unwrap_or(f64::INFINITY)).collect();
+/// The figures of one value or more; what did not finish is infinite.
+pub fn spread(values: impl Iterator<Item = f64>) -> Figures {
+    let mut sorted: Vec<f64> = values.collect();
     sorted.sort_by(f64::total_cmp);
     let at = |share: f64| sorted[((sorted.len() as f64 * share).ceil() as usize).clamp(1, sorted.len()) - 1];
     Figures {
@@ -27,9 +27,10 @@ pub fn spread(values: impl Iterator<Item = Option<f64>>) -> Figures {
     }
 }
 
-/// The figures of times, in microseconds.
+/// The figures of times, in microseconds. What is missing did not finish: it counts as worse than all others, so that no
+/// figure looks better for it.
 pub fn figures(times: impl Iterator<Item = Nanos>) -> Figures {
-    spread(times.map(|time| time.map(|nanos| nanos as f64 / 1_000.0)))
+    spread(times.map(|time| time.map_or(f64::INFINITY, |nanos| nanos as f64 / 1_000.0)))
 }
 
 pub fn time(micros: f64) -> String {
@@ -74,9 +75,12 @@ pub fn plan_word(has_plan: Option<bool>) -> &'static str {
     }
 }
 
-/// A time that is missing stands for a search that did not finish.
+/// A time in the file; one that is missing stands for a search that did not finish.
+pub fn field(time: Nanos) -> String {
+    time.map_or(String::new(), |nanos| nanos.to_string())
+}
+
 pub fn csv_line(name: &str, sheet: u32, one: &Measured) -> String {
-    let field = |time: Nanos| time.map_or(String::new(), |nanos| nanos.to_string());
     let times = [one.crew, one.first, one.exists, one.spare, one.hand_spare].map(field).join(",");
     let plan = plan_word(one.has_plan);
     let size = format!("{},{},{}", one.steps, one.people, one.rules);

@@ -1,11 +1,10 @@
 //! Calls of the library in a child process, so that an endless call can be ended. The clock runs inside the child, around
 //! the call alone: what goes through the pipes is not in the times.
 
+use crate::builds::{linked, Which};
 use crate::clock::timed;
-use crate::walk::counted;
-use sheet_tests::answers::{Call, STEP_BYTES};
-use sheet_tests::library;
-use sheet_tests::model::{MOST_BYTES, MOST_STEPS};
+use model::answers::{Call, MOST_CREW_BYTES};
+use model::card::MOST_BYTES;
 use std::env;
 use std::io::{self, Read, Write};
 use std::process::{Child, ChildStdin, Command, Stdio};
@@ -16,78 +15,52 @@ use std::time::Duration;
 /// The command under which the program is the child.
 pub const COMMAND: &str = "calls";
 
-const MOST_CREW: usize = STEP_BYTES * MOST_STEPS;
-
-/// The bytes for what is called.
+/// The bytes for what is called, and for the build of which it is called.
 const CREW: u8 = 0;
 const SPARE: u8 = 1;
-const WALK_KEPT: u8 = 2;
-const WALK_WITHOUT: u8 = 3;
-
-/// What is called: the library, or the walk of its spare call, with kept plans or without them.
-#[derive(Clone, Copy, Debug, PartialEq, Eq)]
-enum Asked {
-    Library(Call),
-    Walk { cap: u32, keep: bool },
-}
+const THIS: u8 = 0;
+const OTHER: u8 = 1;
 
 /// What was returned and written, and the time of the call.
 #[derive(Clone, Debug, PartialEq, Eq)]
 pub struct Called {
     pub number: u32,
-    pub area: [u8; MOST_CREW],
+    pub area: [u8; MOST_CREW_BYTES],
     pub nanos: u64,
-    /// Of a walk; the library does not count them.
-    pub searches: u32,
 }
 
-/// What a call is sent as: its byte, its cap, the length of the sheet, the sheet.
-fn question(asked: Asked, sheet: &[u8]) -> Vec<u8> {
-    let (byte, cap) = match asked {
-        Asked::Library(Call::Crew) => (CREW, 0),
-        Asked::Library(Call::Spare { cap }) => (SPARE, cap),
-        Asked::Walk { cap, keep: true } => (WALK_KEPT, cap),
-        Asked::Walk { cap, keep: false } => (WALK_WITHOUT, cap),
+/// What a call is sent as: the bytes of the build and of the call, its cap, the length of the sheet, the sheet.
+fn question(which: Which, call: Call, sheet: &[u8]) -> Vec<u8> {
+    let build = if which == Which::This { THIS } else { OTHER };
+    let (byte, cap) = match call {
+        Call::Crew => (CREW, 0),
+        Call::Spare { cap } => (SPARE, cap),
     };
-    [&[byte, cap as u8], &(sheet.len() as u16).to_le_bytes()[..], sheet].concat()
+    [&[build, byte, cap as u8], &(sheet.len() as u16).to_le_bytes()[..], sheet].concat()
 }
 
-fn read_question(input: &mut impl Read) -> io::Result<(Asked, Vec<u8>)> {
-    let mut head = [0; 4];
+fn read_question(input: &mut impl Read) -> io::Result<(Which, Call, Vec<u8>)> {
+    let mut head = [0; 5];
     input.read_exact(&mut head)?;
-    let mut sheet = vec![0; usize::from(u16::from_le_bytes([head[2], head[3]])).min(MOST_BYTES)];
+    let [build, byte, cap, low, high] = head;
+    let mut sheet = vec![0; usize::from(u16::from_le_bytes([low, high])).min(MOST_BYTES)];
     input.read_exact(&mut sheet)?;
-    let cap = head[1].into();
-    let asked = match head[0] {
-        CREW => Asked::Library(Call::Crew),
-        SPARE => Asked::Library(Call::Spare { cap }),
-        byte => Asked::Walk { cap, keep: byte == WALK_KEPT },
-    };
-    Ok((asked, sheet))
+    let which = if build == THIS { Which::This } else { Which::Other };
+    let call = if byte == CREW { Call::Crew } else { Call::Spare { cap: cap.into() } };
+    Ok((which, call, sheet))
 }
 
-/// What it is answered by: the returned number, the nanoseconds, the searches, the area.
+/// What it is answered by: the returned number, the nanoseconds, the area.
 fn answer(called: &Called) -> Vec<u8> {
-    let numbers = [&called.number.to_le_bytes()[..], &called.nanos.to_le_bytes(), &called.searches.to_le_bytes()];
-    [&numbers.concat(), &called.area[..]].concat()
+    [&called.number.to_le_bytes()[..], &called.nanos.to_le_bytes(), &called.area].concat()
 }
 
 fn read_answer(input: &mut impl Read) -> io::Result<Called> {
-    let (mut number, mut nanos, mut searches, mut area) = ([0; 4], [0; 8], [0; 4], [0; MOST_CREW]);
+    let (mut number, mut nanos, mut area) = ([0; 4], [0; 8], [0; MOST_CREW_BYTES]);
     input.read_exact(&mut number)?;
     input.read_exact(&mut nanos)?;
-    input.read_exact(&mut searches)?;
     input.read_exact(&mut area)?;
-    let (number, searches) = (u32::from_le_bytes(number), u32::from_le_bytes(searches));
-    Ok(Called { number, area, nanos: u64::from_le_bytes(nanos), searches })
-}
-
-/// The returned number, and the searches of a walk.
-fn run(asked: Asked, sheet: &[u8], area: &mut [u8]) -> (u32, u32) {
-    match asked {
-        Asked::Library(call) => (library::run(call, sheet, area), 0),
-        Asked::Walk { cap, keep } => counted::walk(sheet, area, cap, keep),
-    }
+    Ok(Called { number: u32::from_le_bytes(number), area, nanos: u64::from_le_bytes(nanos) })
 }
 
 extern "C" {
@@ -103,10 +76,11 @@ pub fn serve() -> io::Result<()> {
     // Takes a number and nothing that is lent.
     unsafe { prctl(PR_SET_PDEATHSIG, SIGKILL) };
     let (mut input, mut output) = (io::stdin().lock(), io::stdout().lock());
-    while let Ok((asked, sheet)) = read_question(&mut input) {
-        let mut area = [0; MOST_CREW];
-        let ((number, searches), time) = timed(|| run(asked, &sheet, &mut area));
-        output.write_all(&answer(&Called { number, area, nanos: time.as_nanos() as u64, searches }))?;
+    while let Ok((which, call, sheet)) = read_question(&mut input) {
+        let build = linked(which).ok_or_else(|| io::Error::other("there is no second build"))?;
+        let mut area = [0; MOST_CREW_BYTES];
+        let (number, time) = timed(|| build.run(call, &sheet, &mut area));
+        output.write_all(&answer(&Called { number, area, nanos: time.as_nanos() as u64 }))?;
         output.flush()?;
     }
     Ok(())
@@ -155,21 +129,12 @@ impl Worker {
     }
 
     /// Nothing where the call takes longer than the limit. A child that ends by itself is an error: the library failed.
-    pub fn call(&mut self, call: Call, sheet: &[u8], limit: Duration) -> io::Result<Option<Called>> {
-        self.ask(Asked::Library(call), sheet, limit)
-    }
-
-    /// The walk of the spare call, with kept plans or without them.
-    pub fn walk(&mut self, cap: u32, keep: bool, sheet: &[u8], limit: Duration) -> io::Result<Option<Called>> {
-        self.ask(Asked::Walk { cap, keep }, sheet, limit)
-    }
-
-    fn ask(&mut self, asked: Asked, sheet: &[u8], limit: Duration) -> io::Result<Option<Called>> {
+    pub fn call(&mut self, which: Which, call: Call, sheet: &[u8], limit: Duration) -> io::Result<Option<Called>> {
         let running = match &mut self.running {
             Some(running) => running,
             none => none.insert(Running::start()?),
         };
-        running.questions.write_all(&question(asked, sheet))?;
+        running.questions.write_all(&question(which, call, sheet))?;
         running.questions.flush()?;
         if let Ok(called) = running.answers.recv_timeout(limit) {
             return Ok(Some(called));
@@ -186,22 +151,22 @@ impl Worker {
 #[cfg(test)]
 mod tests {
     use super::*;
-    use sheet_tests::builder::sheet_w;
+    use model::builder::sheet_w;
 
     #[test]
     fn a_question_is_read_as_it_was_sent() {
-        let calls = [Call::Crew, Call::Spare { cap: 0 }, Call::Spare { cap: 3 }].map(Asked::Library);
-        let walks = [true, false].map(|keep| Asked::Walk { cap: 3, keep });
-        for asked in calls.into_iter().chain(walks) {
-            let sheet = sheet_w().bytes;
-            let sent = question(asked, &sheet);
-            assert_eq!(read_question(&mut &sent[..]).unwrap(), (asked, sheet));
+        for which in [Which::This, Which::Other] {
+            for call in [Call::Crew, Call::Spare { cap: 0 }, Call::Spare { cap: 3 }] {
+                let sheet = sheet_w().bytes;
+                let sent = question(which, call, &sheet);
+                assert_eq!(read_question(&mut &sent[..]).unwrap(), (which, call, sheet));
+            }
         }
     }
 
     #[test]
     fn an_answer_is_read_as_it_was_sent() {
-        let called = Called { number: 13 * 256, area: [7; MOST_CREW], nanos: 1 << 40, searches: 44_000 };
+        let called = Called { number: 13 * 256, area: [7; MOST_CREW_BYTES], nanos: 1 << 40 };
         assert_eq!(read_answer(&mut &answer(&called)[..]).unwrap(), called);
     }
 }

@@ -1,8 +1,8 @@
 //! The paper's sheets to try through both calls, each with the number and the bytes that the paper gives it; then caps,
 //! and the order of refusals.
 
-use crate::answers::{crew_bytes, spare_bytes, Call};
-use crate::builder::{one_by_one, plain, sheet_w, shorter_w, w_and, Draft};
+use model::answers::{crew_bytes, spare_bytes, Call};
+use model::builder::{one_by_one, plain, sheet_w, shorter_w, w_and, Draft};
 
 /// A call, and what is stated of it. `written` are the first bytes of the area afterwards; the others are kept.
 #[derive(Clone, Debug)]
@@ -184,7 +184,7 @@ fn refusals_in_order() -> Vec<Trial> {
 #[cfg(test)]
 mod tests {
     use super::*;
-    use crate::answers::answer;
+    use model::answers::answer;
     use std::collections::BTreeSet;
 
     #[test]

@@ -6,9 +6,9 @@
 //!   call (u8: 0 crew, 1 spare), cap (u32), length of the answer area (u16), returned number (u32),
 //!   length of the name (u8), name, number of bytes written (u8), these bytes.
 
-use crate::answers::{answer, Call, SPARE_BYTES};
-use crate::builder::{sheet_w, Draft};
 use crate::calls;
+use model::answers::{answer, Call, SPARE_BYTES};
+use model::builder::{sheet_w, Draft};
 
 const UNDAMAGED: u16 = u16::MAX;
 const W_ROOM: usize = 24;

@@ -1,17 +1,7 @@
-//! Tests of the reader and of the calls: a model of the reader and a brute force, both written from the paper, sheets
-//! to try, and random sheets.
+//! Tests of the reader and of the calls: sheets to try with what the paper says of them, and random sheets.
 
-pub mod answers;
-pub mod builder;
 pub mod calls;
 pub mod cases;
-pub mod garble;
-pub mod jobs;
-#[cfg(feature = "library")]
-pub mod library;
-pub mod model;
-pub mod plans;
-pub mod random;
-pub mod recipe;
 pub mod records;
+pub mod tally;
 pub mod trials;

@@ -1,8 +1,8 @@
 //! The stream of records that the program `trials` reads.
 
 /// The longest name and the longest sheet that a record can hold.
-pub const MOST_NAME: usize = 255;
-pub const MOST_SHEET: usize = 65_535;
+pub const MOST_NAME: usize = u8::MAX as usize;
+pub const MOST_SHEET: usize = u16::MAX as usize;
 
 /// Adds a record: two bytes with the sheet's length, low byte first, one with the name's, the name, the sheet.
 pub fn add(stream: &mut Vec<u8>, name: &str, sheet: &[u8]) {

@@ -1,8 +1,9 @@
 //! The library on the paper's sheets and on every damage to one byte of W.
 
-use sheet_tests::answers::{answer, Call, SPARE_BYTES};
-use sheet_tests::builder::sheet_w;
-use sheet_tests::{calls, library};
+use model::answers::{answer, Call, SPARE_BYTES};
+use model::builder::sheet_w;
+use model::library;
+use sheet_tests::calls;
 use std::thread;
 
 /// What an area holds before a call.

@@ -10,4 +10,4 @@
 pub mod line;
 pub mod pack;
 pub mod show;
-mod words;
+pub mod words;

@@ -1,6 +1,7 @@
 //! One line of the text, by itself.
 
 use crate::words;
+use model::job::has_limit;
 use std::str::SplitWhitespace;
 
 #[derive(Debug, PartialEq, Eq)]
@@ -89,7 +90,7 @@ fn rule(words: &mut Words) -> Result<Line, String> {
     let word = words.next("the rule's kind")?;
     let kind =
         words::kind(word).ok_or_else(|| format!("a rule is same, different, at-most or at-least, not '{word}'"))?;
-    let limit = if words::has_limit(kind) { words.number("the limit", u8::MAX.into())? as u8 } else { 0 };
+    let limit = if has_limit(kind) { words.number("the limit", u8::MAX.into())? as u8 } else { 0 };
     let word = words.next("the level")?;
     let level = words::level(word).ok_or_else(|| format!("a level is shop, bench or person, not '{word}'"))?;
     Ok(Line::Rule { kind, level, limit, steps: words.steps()? })
@@ -111,6 +112,7 @@ pub fn read(text: &str) -> Result<Option<Line>, String> {
 #[cfg(test)]
 mod tests {
     use super::*;
+    use model::job::{AT_MOST, BY_PERSON};
 
     #[test]
     fn lines_are_read() {
@@ -119,7 +121,7 @@ mod tests {
         let idle = Line::Person { tag: 103, shop: 1, bench: 2, may: vec![] };
         assert_eq!(read("person 103 shop 1 bench 2"), Ok(Some(idle)));
         assert_eq!(read("  step 4294967295"), Ok(Some(Line::Step { tag: u32::MAX })));
-        let rule = Line::Rule { kind: 3, level: 3, limit: 2, steps: vec![10, 20, 30] };
+        let rule = Line::Rule { kind: AT_MOST, level: BY_PERSON, limit: 2, steps: vec![10, 20, 30] };
         assert_eq!(read("rule at-most 2 person 10 20 30"), Ok(Some(rule)));
         assert_eq!(read("# nothing"), Ok(None));
     }

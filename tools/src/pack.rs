@@ -2,8 +2,8 @@
 
 use crate::line::{self, Line};
 use crate::words;
-use sheet_tests::builder;
-use sheet_tests::model::{Job, Person, Rule, Step, MOST_PEOPLE, MOST_RULES, MOST_STEPS};
+use model::builder;
+use model::job::{has_limit, Job, Person, Rule, Step, MOST_PEOPLE, MOST_RULES, MOST_STEPS};
 use std::fmt;
 
 #[derive(Debug, PartialEq, Eq)]
@@ -65,7 +65,7 @@ fn add_person(job: &mut Job, person: Person) -> Result<(), String> {
 fn add_rule(job: &mut Job, rule: Rule) -> Result<(), String> {
     room(job.rules.len(), MOST_RULES, "rules")?;
     let size = rule.scope.count_ones();
-    if !words::has_limit(rule.kind) && size != 2 {
+    if !has_limit(rule.kind) && size != 2 {
         return Err(format!("a rule '{}' names two steps, not {size}", words::kind_word(rule.kind)));
     }
     if size < 2 {

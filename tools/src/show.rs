@@ -1,12 +1,13 @@
 //! From cards to text.
 
 use crate::words;
-use sheet_tests::model::{read, Job, Person, Refusal, Rule};
+use model::job::{has_limit, steps_of, Job, Person, Rule};
+use model::reader::read;
+use model::refusal::Refusal;
 
 /// The tags of the steps of a mask, each with a space in front.
 fn tags(job: &Job, mask: u16) -> String {
-    let steps = job.steps.iter().enumerate().filter(|(at, _)| mask >> at & 1 == 1);
-    steps.map(|(_, step)| format!(" {}", step.tag)).collect()
+    steps_of(mask).map(|step| format!(" {}", job.steps[step].tag)).collect()
 }
 
 fn person(job: &Job, person: &Person) -> String {
@@ -16,7 +17,7 @@ fn person(job: &Job, person: &Person) -> String {
 }
 
 fn rule(job: &Job, rule: &Rule) -> String {
-    let limit = if words::has_limit(rule.kind) { format!(" {}", rule.limit) } else { String::new() };
+    let limit = if has_limit(rule.kind) { format!(" {}", rule.limit) } else { String::new() };
     let (kind, level) = (words::kind_word(rule.kind), words::level_word(rule.level));
     format!("rule {kind}{limit} {level}{}\n", tags(job, rule.scope))
 }

@@ -1,13 +1,20 @@
 //! The words for rule kinds and levels.
 
-/// Rule kinds 1 to 4.
-const KINDS: [&str; 4] = ["same", "different", "at-most", "at-least"];
+use model::job::{AT_LEAST, AT_MOST, BY_BENCH, BY_PERSON, BY_SHOP, DIFFERENT, SAME};
 
-/// Levels 1 to 3.
-const LEVELS: [&str; 3] = ["shop", "bench", "person"];
+type Named = (u8, &'static str);
 
-fn number(words: &[&str], word: &str) -> Option<u8> {
-    words.iter().position(|known| *known == word).map(|at| at as u8 + 1)
+pub const KINDS: [Named; 4] = [(SAME, "same"), (DIFFERENT, "different"), (AT_MOST, "at-most"), (AT_LEAST, "at-least")];
+
+pub const LEVELS: [Named; 3] = [(BY_SHOP, "shop"), (BY_BENCH, "bench"), (BY_PERSON, "person")];
+
+fn number(named: &[Named], word: &str) -> Option<u8> {
+    named.iter().find(|(_, known)| *known == word).map(|(number, _)| *number)
+}
+
+/// The word for a number that a job may have.
+fn word(named: &[Named], number: u8) -> &'static str {
+    named.iter().find(|(known, _)| *known == number).expect("a kind or level of a job").1
 }
 
 pub fn kind(word: &str) -> Option<u8> {
@@ -19,14 +26,9 @@ pub fn level(word: &str) -> Option<u8> {
 }
 
 pub fn kind_word(kind: u8) -> &'static str {
-    KINDS[usize::from(kind) - 1]
+    word(&KINDS, kind)
 }
 
 pub fn level_word(level: u8) -> &'static str {
-    LEVELS[usize::from(level) - 1]
-}
-
-/// Kinds 3 and 4 have a limit; of 1 and 2 it is zero and not written.
-pub fn has_limit(kind: u8) -> bool {
-    kind >= 3
+    word(&LEVELS, level)
 }

@@ -1,12 +1,12 @@
 //! Text and cards, there and back.
 
+use model::builder::{lay, one_by_one, sheet_w, shorter_w, w_and, Draft};
+use model::garble::sample;
+use model::jobs::{good_job, laid};
+use model::random::Random;
+use model::reader::read;
 use sheet::pack::pack;
 use sheet::show::{show, text};
-use sheet_tests::builder::{lay, one_by_one, sheet_w, shorter_w, w_and, Draft};
-use sheet_tests::garble::sample;
-use sheet_tests::jobs::{good_job, laid};
-use sheet_tests::model::read;
-use sheet_tests::random::Random;
 
 fn examples() -> [(&'static str, Draft); 8] {
     [

@@ -1,6 +1,6 @@
 //! The worst sheets of a run.
 
-use sheet_tests::model::Job;
+use model::job::Job;
 use std::time::Duration;
 
 /// Where a climb ended.

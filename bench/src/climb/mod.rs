@@ -4,16 +4,17 @@ mod kept;
 mod mutate;
 mod shape;
 
+use crate::builds::Which;
 use crate::groups::{self, Group};
 use crate::hard;
 use crate::options::{has_option, option};
 use crate::worker::Worker;
 use kept::{Kept, Place};
+use model::answers::{Call, MOST_CAP};
+use model::builder::lay;
+use model::job::Job;
+use model::random::Random;
 use mutate::mutated;
-use sheet_tests::answers::Call;
-use sheet_tests::builder::lay;
-use sheet_tests::model::Job;
-use sheet_tests::random::Random;
 use std::io;
 use std::path::PathBuf;
 use std::time::{Duration, Instant};
@@ -65,7 +66,7 @@ pub struct Order {
 fn call(name: &str) -> Option<Call> {
     match name {
         "crew" => Some(Call::Crew),
-        "spare" => Some(Call::Spare { cap: 3 }),
+        "spare" => Some(Call::Spare { cap: MOST_CAP }),
         _ => None,
     }
 }
@@ -98,7 +99,7 @@ struct Climb<'a> {
 impl Climb<'_> {
     /// A call that is ended counts as its limit: nothing is slower.
     fn time(&mut self, call: Call, job: &Job) -> io::Result<Duration> {
-        let called = self.worker.call(call, &lay(job).bytes, self.order.limit)?;
+        let called = self.worker.call(Which::This, call, &lay(job).bytes, self.order.limit)?;
         Ok(called.map_or(self.order.limit, |called| Duration::from_nanos(called.nanos)))
     }
 
@@ -133,7 +134,7 @@ impl Climb<'_> {
     /// The other call too: what is hard for one need not be so for the other.
     fn both_times(&mut self, job: &Job) -> io::Result<String> {
         let crew = self.time(Call::Crew, job)?;
-        let spare = self.time(Call::Spare { cap: 3 }, job)?;
+        let spare = self.time(Call::Spare { cap: MOST_CAP }, job)?;
         let word = |time: Duration| match time < self.order.limit {
             true => format!("{:.3} ms", time.as_secs_f64() * 1_000.0),
             false => format!("over {} ms", self.order.limit.as_millis()),
@@ -193,15 +194,12 @@ pub fn run(order: &Order) -> io::Result<()> {
 #[cfg(test)]
 mod tests {
     use super::*;
-
-    fn words(line: &str) -> Vec<String> {
-        line.split(' ').map(String::from).collect()
-    }
+    use crate::options::words;
 
     #[test]
     fn an_order_names_folder_and_call() {
         let order = order(words("out --call spare --seed 7 loose")).unwrap();
-        assert_eq!((order.folder, order.seed, order.call), ("out".into(), 7, Call::Spare { cap: 3 }));
+        assert_eq!((order.folder, order.seed, order.call), ("out".into(), 7, Call::Spare { cap: MOST_CAP }));
         assert_eq!(order.groups, ["loose"]);
     }
 

@@ -1,12 +1,8 @@
 //! Small changes of a job. Each leaves a job that the reader takes.
 
-use sheet_tests::jobs::random_rule;
-use sheet_tests::model::{Job, Rule, MOST_PEOPLE, MOST_RULES};
-use sheet_tests::random::Random;
-
-const SAME: u8 = 1;
-const DIFFERENT: u8 = 2;
-const AT_MOST: u8 = 3;
+use model::job::{has_limit, Job, Rule, AT_LEAST, AT_MOST, DIFFERENT, MOST_PEOPLE, MOST_RULES, SAME};
+use model::jobs::{any_count, any_level, random_rule};
+use model::random::Random;
 
 /// What a change does; one that cannot be made leaves the job as it is.
 type Change = fn(&mut Random, &mut Job);
@@ -34,7 +30,7 @@ const CHANGES: [Change; 16] = [
 /// A limit within the bounds of the rule's kind and scope.
 fn fit_limit(rule: &mut Rule) {
     let size = rule.scope.count_ones() as u8;
-    rule.limit = if rule.kind <= DIFFERENT { 0 } else { rule.limit.clamp(1, size) };
+    rule.limit = if has_limit(rule.kind) { rule.limit.clamp(1, size) } else { 0 };
 }
 
 /// Some rule, to be changed.
@@ -78,16 +74,16 @@ fn change_kind(random: &mut Random, job: &mut Job) {
         return;
     };
     rule.kind = match rule.kind {
-        SAME | DIFFERENT if random.once_in(3) => random.within(3, 4) as u8,
+        SAME | DIFFERENT if random.once_in(3) => any_count(random),
         SAME | DIFFERENT => SAME + DIFFERENT - rule.kind,
-        kind => 2 * AT_MOST + 1 - kind,
+        kind => AT_MOST + AT_LEAST - kind,
     };
     fit_limit(rule);
 }
 
 fn change_level(random: &mut Random, job: &mut Job) {
     if let Some(rule) = any_rule(random, job) {
-        rule.level = random.within(1, 3) as u8;
+        rule.level = any_level(random);
     }
 }
 
@@ -98,7 +94,7 @@ fn change_scope(random: &mut Random, job: &mut Job) {
     let Some(rule) = any_rule(random, job) else {
         return;
     };
-    if rule.kind <= DIFFERENT {
+    if !has_limit(rule.kind) {
         let kept =
             if random.once_in(2) { rule.scope & rule.scope.wrapping_neg() } else { rule.scope & (rule.scope - 1) };
         if kept != bit {
@@ -192,9 +188,9 @@ pub fn mutated(random: &mut Random, job: &Job) -> Job {
 #[cfg(test)]
 mod tests {
     use super::*;
-    use sheet_tests::builder::lay;
-    use sheet_tests::jobs::{good_job, job_of, small_job};
-    use sheet_tests::model::read;
+    use model::builder::lay;
+    use model::jobs::{good_job, job_of, small_job};
+    use model::reader::read;
 
     #[test]
     fn changes_keep_a_sheet_readable() {

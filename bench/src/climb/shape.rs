@@ -1,10 +1,8 @@
 //! What a job looks like, in a line.
 
-use sheet_tests::model::Job;
+use model::job::Job;
+use sheet::words::{KINDS, LEVELS};
 use std::collections::BTreeSet;
-
-const KINDS: [&str; 4] = ["same", "different", "at-most", "at-least"];
-const LEVELS: [&str; 3] = ["shop", "bench", "person"];
 
 fn different<T: Ord>(of: impl Iterator<Item = T>) -> usize {
     of.collect::<BTreeSet<T>>().len()
@@ -13,8 +11,8 @@ fn different<T: Ord>(of: impl Iterator<Item = T>) -> usize {
 /// How many rules there are of each kind and level that has any.
 fn rules(job: &Job) -> String {
     let mut parts = vec![];
-    for (kind, kind_word) in (1..).zip(KINDS) {
-        for (level, level_word) in (1..).zip(LEVELS) {
+    for (kind, kind_word) in KINDS {
+        for (level, level_word) in LEVELS {
             let count = job.rules.iter().filter(|rule| (rule.kind, rule.level) == (kind, level)).count();
             if count > 0 {
                 parts.push(format!("{count} {kind_word} {level_word}"));
@@ -40,7 +38,7 @@ pub fn line(job: &Job) -> String {
 #[cfg(test)]
 mod tests {
     use super::*;
-    use sheet_tests::builder::job_w;
+    use model::builder::job_w;
 
     #[test]
     fn w_has_its_shape() {

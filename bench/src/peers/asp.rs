@@ -1,6 +1,6 @@
 //! A job as a logic program: facts about the sheet, and the rules as counts.
 
-use sheet_tests::model::Job;
+use model::job::{steps_of, Job, BY_BENCH, BY_PERSON, BY_SHOP, MOST_PEOPLE, MOST_STEPS};
 
 /// Kinds and levels have their numbers on the sheet.
 const PLANS: &str = "\
@@ -16,26 +16,30 @@ pair(R, S, T) :- scope(R, S), scope(R, T), S < T.
 ";
 
 /// Decisions go along the steps and, for each, along the crew, "does it" first: the first plan found is then the first.
-const FIRST: &str = "#heuristic do(S, P) : may(S, P). [64 * (12 - S) + 64 - P, true]\n";
+fn plan_order() -> String {
+    format!("#heuristic do(S, P) : may(S, P). [{MOST_PEOPLE} * ({MOST_STEPS} - S) + {MOST_PEOPLE} - P, true]\n")
+}
 
 fn facts(job: &Job) -> String {
     let mut facts = String::new();
     for step in 0..job.steps.len() {
         facts += &format!("step({step}).\n");
-        let permitted = (0..job.people.len()).filter(|person| job.people[*person].permitted >> step & 1 == 1);
-        facts.extend(permitted.map(|person| format!("may({step}, {person}).\n")));
+        facts.extend(job.permitted(step).map(|person| format!("may({step}, {person}).\n")));
     }
     for (at, person) in job.people.iter().enumerate() {
-        facts += &format!("class(1, {at}, {}). class(2, {at}, {}). class(3, {at}, {at}).\n", person.shop, person.bench);
+        // A tag may be above clingo's numbers: the class of a person is the place.
+        for (level, class) in [(BY_SHOP, person.shop.into()), (BY_BENCH, person.bench.into()), (BY_PERSON, at)] {
+            facts += &format!("class({level}, {at}, {class}).\n");
+        }
     }
     for (at, rule) in job.rules.iter().enumerate() {
         facts += &format!("rule({at}, {}, {}, {}).\n", rule.kind, rule.level, rule.limit);
-        let steps = (0..job.steps.len()).filter(|step| rule.scope >> step & 1 == 1);
-        facts.extend(steps.map(|step| format!("scope({at}, {step}).\n")));
+        facts.extend(steps_of(rule.scope).map(|step| format!("scope({at}, {step}).\n")));
     }
     facts
 }
 
 pub fn text(job: &Job, first: bool) -> String {
-    facts(job) + PLANS + if first { FIRST } else { "" }
+    let order = if first { plan_order() } else { String::new() };
+    facts(job) + PLANS + &order
 }

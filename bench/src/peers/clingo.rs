@@ -3,7 +3,7 @@
 use super::asp::text;
 use super::process::{run, seconds};
 use super::solver::{Question, Solved, Solver};
-use sheet_tests::model::Job;
+use model::job::Job;
 use std::path::PathBuf;
 use std::process::Command;
 use std::time::Duration;
@@ -30,10 +30,6 @@ fn plan_of(printed: &str, steps: usize) -> Option<Vec<usize>> {
 impl Solver for Clingo {
     fn name(&self) -> &'static str {
         "clingo"
-    }
-
-    fn questions(&self) -> &'static [Question] {
-        &[Question::Exists, Question::First]
     }
 
     fn solve(&mut self, job: &Job, question: Question, limit: Duration) -> io::Result<Option<Solved>> {

@@ -4,7 +4,7 @@ use super::cnf::{text, Clause, Clauses, Lit};
 use super::needs::{Needs, Var};
 use super::process::{run, seconds};
 use super::solver::{Question, Solved, Solver};
-use sheet_tests::model::Job;
+use model::job::Job;
 use std::collections::HashSet;
 use std::path::PathBuf;
 use std::process::Command;
@@ -79,10 +79,6 @@ impl Asked<'_> {
 impl Solver for Minisat {
     fn name(&self) -> &'static str {
         "minisat"
-    }
-
-    fn questions(&self) -> &'static [Question] {
-        &[Question::Exists, Question::First]
     }
 
     fn solve(&mut self, job: &Job, question: Question, limit: Duration) -> io::Result<Option<Solved>> {

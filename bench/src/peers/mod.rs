@@ -14,14 +14,14 @@ mod table;
 
 use crate::groups;
 use crate::measure::{called, people_of, Answer};
-use crate::options::{has_option, option};
+use crate::options::{self, option, Run};
 use crate::record;
 use crate::worker::Worker;
 use installed::{Installed, Scratch};
-use sheet_tests::answers::Call;
-use sheet_tests::builder::plain_job;
-use sheet_tests::model::Job;
-use sheet_tests::plans::is_valid;
+use model::answers::Call;
+use model::builder::plain_job;
+use model::job::Job;
+use model::plans::is_valid;
 use solver::{Question, Solved, Solver};
 use std::io::{self, Write};
 use std::time::Duration;
@@ -42,22 +42,14 @@ person and one step: what a solver costs before it works. MiniSat needs several 
 const WARM_UP: u32 = 40;
 
 pub struct Order {
-    csv: String,
-    sheets: u32,
+    run: Run,
+    /// The longest that a solver may take for one answer.
     limit: Duration,
-    library: Duration,
-    groups: Vec<String>,
 }
 
 pub fn order(mut args: Vec<String>) -> Option<Order> {
-    let sheets = option(&mut args, "--sheets", 10)?;
     let limit = Duration::from_millis(option(&mut args, "--limit-ms", 1_000)?);
-    let library = Duration::from_millis(option(&mut args, "--late-ms", 1_000)?);
-    if args.is_empty() || sheets == 0 || has_option(&args) {
-        return None;
-    }
-    let csv = args.remove(0);
-    Some(Order { csv, sheets, limit, library, groups: args })
+    Some(Order { run: options::run(args, 10)?, limit })
 }
 
 /// What the library says of the job: the first plan, or that there is none. It may be late itself.
@@ -91,10 +83,10 @@ fn agrees(job: &Job, ours: &Ours, solved: &Option<Solved>, question: Question) -
 }
 
 /// The sheets to be asked about: first the smallest, then the groups'.
-fn sheets(order: &Order) -> Vec<(String, u32, Job)> {
+fn sheets(run: &Run) -> Vec<(String, u32, Job)> {
     let mut sheets: Vec<_> = (1..=5).map(|sheet| ("start".to_string(), sheet, plain_job(1, 1, 0))).collect();
-    for group in groups::meant(&order.groups) {
-        let numbers = 1..=if group.name == groups::HARD { group.sheets } else { order.sheets.min(group.sheets) };
+    for group in groups::meant(&run.groups) {
+        let numbers = 1..=if group.name == groups::HARD { group.sheets } else { run.sheets.min(group.sheets) };
         sheets.extend(numbers.map(|sheet| (group.name.clone(), sheet, (group.job)(sheet))));
     }
     sheets
@@ -110,11 +102,11 @@ fn warm_up(solvers: &mut [Box<dyn Solver>], limit: Duration) -> io::Result<()> {
     Ok(())
 }
 
-/// The solver's answers to its questions; what is late for the first is so for the others.
+/// The solver's answers to both questions; what is late for the first is so for the second.
 fn answers(solver: &mut dyn Solver, job: &Job, limit: Duration) -> io::Result<Vec<(Question, Option<Solved>)>> {
     let mut answers = vec![];
     let mut late = false;
-    for &question in solver.questions() {
+    for question in Question::ALL {
         let solved = if late { None } else { solver.solve(job, question, limit)? };
         late = solved.is_none();
         answers.push((question, solved));
@@ -130,14 +122,14 @@ pub fn run(order: &Order) -> io::Result<usize> {
     for note in &notes {
         println!("{note}");
     }
-    let mut csv = record::create(&order.csv, &notes)?;
+    let mut csv = record::create(&order.run.csv, &notes)?;
     writeln!(csv, "{}", table::CSV_HEADING)?;
     warm_up(&mut solvers, order.limit)?;
     let mut worker = Worker::new();
     let mut lines: Vec<Line> = vec![];
-    for (group, sheet, job) in sheets(order) {
-        let (answer, crew) = called(&mut worker, Call::Crew, &job, order.library)?;
-        let (existence, exists) = called(&mut worker, Call::Spare { cap: 0 }, &job, order.library)?;
+    for (group, sheet, job) in sheets(&order.run) {
+        let (answer, crew) = called(&mut worker, Call::Crew, &job, order.run.late)?;
+        let (existence, exists) = called(&mut worker, Call::Spare { cap: 0 }, &job, order.run.late)?;
         let ours = ours(&job, &answer);
         let one_mind = says_the_same(&ours, &existence);
         for solver in &mut solvers {
@@ -167,9 +159,9 @@ pub fn run(order: &Order) -> io::Result<usize> {
 #[cfg(test)]
 mod tests {
     use super::*;
-    use sheet_tests::jobs::small_job;
-    use sheet_tests::plans::first_plan;
-    use sheet_tests::random::Random;
+    use model::jobs::small_job;
+    use model::plans::first_plan;
+    use model::random::Random;
 
     #[test]
     #[ignore = "asks the solvers that are installed: cargo test -- --ignored"]
@@ -183,7 +175,7 @@ mod tests {
             for _ in 0..60 {
                 let job = small_job(&mut random);
                 let first = first_plan(&job, &[]);
-                for &question in solver.questions() {
+                for question in Question::ALL {
                     let solved = solver.solve(&job, question, limit).unwrap().expect("a small job");
                     assert!(agrees(&job, &Some(first.clone()), &Some(solved), question), "{} {job:?}", solver.name());
                 }

@@ -4,7 +4,7 @@
 //! for each rule that counts one for each class. The appendix has at-most rules for people only; here they are for any
 //! level, and at-least rules are done alike.
 
-use sheet_tests::model::{Job, Person, Rule};
+use model::job::{steps_of, Job, Rule, AT_MOST, BY_PERSON, DIFFERENT, SAME};
 use std::collections::BTreeMap;
 
 /// Variables are numbered from 1.
@@ -43,35 +43,17 @@ pub struct Needs {
     classes: BTreeMap<(u8, usize), BTreeMap<u32, Var>>,
 }
 
-const SAME: u8 = 1;
-const DIFFERENT: u8 = 2;
-const AT_MOST: u8 = 3;
-const BY_PERSON: u8 = 3;
-
-fn class(person: &Person, level: u8) -> u32 {
-    match level {
-        1 => person.shop.into(),
-        2 => person.bench.into(),
-        _ => person.tag,
-    }
-}
-
-fn steps_of(rule: &Rule) -> Vec<usize> {
-    (0..16).filter(|step| rule.scope >> step & 1 == 1).collect()
-}
-
 impl Needs {
     pub fn new(job: &Job) -> Needs {
         let mut needs = Needs { does: vec![], vars: 0, all: vec![], classes: BTreeMap::new() };
         for step in 0..job.steps.len() {
-            let permitted = (0..job.people.len()).filter(|person| job.people[*person].permitted >> step & 1 == 1);
-            let does: Vec<(usize, Var)> = permitted.map(|person| (person, needs.new_var())).collect();
+            let does: Vec<(usize, Var)> = job.permitted(step).map(|person| (person, needs.new_var())).collect();
             let of = does.iter().map(|(_, var)| *var).collect();
             needs.all.push(Need::Between { of, low: 1, high: 1 });
             needs.does.push(does);
         }
         for rule in &job.rules {
-            for step in steps_of(rule) {
+            for step in steps_of(rule.scope) {
                 needs.know_classes(job, rule.level, step);
             }
             match rule.kind {
@@ -94,7 +76,7 @@ impl Needs {
         }
         let mut members: BTreeMap<u32, Vec<Var>> = BTreeMap::new();
         for (person, var) in &self.does[step] {
-            members.entry(class(&job.people[*person], level)).or_default().push(*var);
+            members.entry(job.people[*person].class(level)).or_default().push(*var);
         }
         let mut vars = BTreeMap::new();
         for (class, of) in members {
@@ -110,7 +92,7 @@ impl Needs {
     }
 
     fn pair(&mut self, rule: &Rule) {
-        let steps = steps_of(rule);
+        let steps: Vec<usize> = steps_of(rule.scope).collect();
         let [first, second] = [steps[0], steps[1]].map(|step| &self.classes[&(rule.level, step)]);
         for (class, a) in first {
             match (second.get(class), rule.kind) {
@@ -129,7 +111,7 @@ impl Needs {
     /// For each class a variable: for at most it is true when the class does a step of the scope, for at least only then.
     fn count(&mut self, rule: &Rule) {
         let mut within: BTreeMap<u32, Vec<Var>> = BTreeMap::new();
-        for step in steps_of(rule) {
+        for step in steps_of(rule.scope) {
             for (class, var) in &self.classes[&(rule.level, step)] {
                 within.entry(*class).or_default().push(*var);
             }
@@ -163,10 +145,10 @@ impl Needs {
 #[cfg(test)]
 mod tests {
     use super::*;
-    use sheet_tests::builder::job_w;
-    use sheet_tests::jobs::small_job;
-    use sheet_tests::plans::{first_plan, is_valid};
-    use sheet_tests::random::Random;
+    use model::builder::job_w;
+    use model::jobs::small_job;
+    use model::plans::{first_plan, is_valid};
+    use model::random::Random;
 
     /// How many of them are true.
     fn sum(of: &[Var], set: u64) -> usize {

@@ -4,7 +4,7 @@ use super::needs::{Needs, Var};
 use super::opb::text;
 use super::process::is_there;
 use super::solver::{Question, Solved, Solver};
-use sheet_tests::model::Job;
+use model::job::Job;
 use std::io::{self, BufRead, BufReader, Write};
 use std::path::{Path, PathBuf};
 use std::process::{Child, ChildStdin, ChildStdout, Command, Stdio};
@@ -99,10 +99,6 @@ impl Solver for Sat4j {
         "sat4j"
     }
 
-    fn questions(&self) -> &'static [Question] {
-        &[Question::Exists, Question::First]
-    }
-
     /// The wall time is that of reading the file and solving: its repeats are no part of it.
     fn solve(&mut self, job: &Job, question: Question, limit: Duration) -> io::Result<Option<Solved>> {
         let needs = Needs::new(job);
@@ -126,7 +122,7 @@ impl Solver for Sat4j {
 #[cfg(test)]
 mod tests {
     use super::*;
-    use sheet_tests::builder::{job_w, plain_job};
+    use model::builder::{job_w, plain_job};
 
     #[test]
     fn an_answer_has_a_word_two_times_and_perhaps_a_plan() {

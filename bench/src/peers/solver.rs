@@ -1,6 +1,6 @@
 //! What is asked of a solver, and what it answers.
 
-use sheet_tests::model::Job;
+use model::job::Job;
 use std::io;
 use std::time::Duration;
 
@@ -13,6 +13,9 @@ pub enum Question {
 }
 
 impl Question {
+    /// In the order in which they are asked.
+    pub const ALL: [Question; 2] = [Question::Exists, Question::First];
+
     pub fn word(self) -> &'static str {
         match self {
             Question::Exists => "exists",
@@ -34,7 +37,6 @@ pub struct Solved {
 
 pub trait Solver {
     fn name(&self) -> &'static str;
-    fn questions(&self) -> &'static [Question];
     /// Nothing where the limit has passed.
     fn solve(&mut self, job: &Job, question: Question, limit: Duration) -> io::Result<Option<Solved>>;
 }

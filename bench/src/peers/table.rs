@@ -2,7 +2,7 @@
 
 use super::solver::{Question, Solved};
 use crate::clock::Nanos;
-use crate::table::{figures, plan_word, time};
+use crate::table::{field, figures, plan_word, time};
 
 pub struct Line {
     pub group: String,
@@ -42,9 +42,7 @@ impl Line {
 pub const CSV_HEADING: &str =
     "group,sheet,steps,people,rules,plan,crew_ns,exists_ns,solver,question,calls,wall_ns,own_ns,agrees";
 
-/// A time that is missing stands for an answer that was late.
 pub fn csv_line(line: &Line) -> String {
-    let field = |time: Nanos| time.map_or(String::new(), |nanos| nanos.to_string());
     let size = line.size.map(|size| size.to_string()).join(",");
     let calls = line.solved.as_ref().map_or(String::new(), |solved| solved.calls.to_string());
     let (solver, question) = (line.solver, line.question.word());

@@ -14,14 +14,12 @@ use Rattle.bits.specs.Word.{hasBit}
 use Rattle.bits.proofs.Below.{by-cases, below-suc, true-false}
 use Rattle.bits.proofs.Counting.{count-le}
 use Rattle.bits.proofs.SetLaws.{empty-lacks}
-use Rattle.workflow.specs.Problem.{Job, Rule, RuleOk, Plan, Valid, distinct, classCount}
-use Rattle.workflow.specs.Interval.{lowest, highest}
-use Rattle.workflow.proofs.Rules.{met-interval}
+use Rattle.workflow.specs.Problem.{Job, Rule, Plan, Valid, distinct, classCount}
 use Rattle.pattern.specs.Tables.{mayIn, planIn}
 use Rattle.pattern.proofs.Same.{distinct-scope-cong}
 use Rattle.narrow.specs.Domains.{Takes}
 use Rattle.narrow.specs.Fixing.{Fixing}
-use Rattle.narrow.proofs.Masks.{bits-below, ones-count}
+use Rattle.bits.proofs.Masks.{bits-below, ones-count}
 use Rattle.narrow.proofs.Settling.{settled-count}
 use Rattle.backtrack.specs.Trial.{Judged, JudgedRule, Alone, Taken, TakenIf, Trial}
 use Rattle.backtrack.specs.declared.Tried.{Tried}
@@ -76,31 +74,29 @@ counted j r scope dom used heads scoped f few π t =
     ∙ distinct-scope-cong (j .steps) (hasBit scope) (r .scope) (λ s. j .class (r .level) (π s)) (λ s l. scoped s)
 
 -- what the count says of rule i
-module _ (j : Job) (i : ℕ) (ok : RuleOk (j .steps) (j .levels) (j .rule i)) (scope : ℕ) (dom : List ℕ) (used heads : ℕ)
+module _ (j : Job) (i : ℕ) (scope : ℕ) (dom : List ℕ) (used heads : ℕ)
     (scoped : (s : ℕ) → hasBit scope s ≡ j .rule i .scope s)
     (wide : ℕ) (whole : Fixing (j .steps) (j .people) (j .class (j .rule i .level)) scope dom 0 used heads wide) (none-wide : wide ≡ 0) (few : j .steps ≤ 12) where
   f : Fixing (j .steps) (j .people) (j .class (j .rule i .level)) scope dom 0 used heads 0
   f = subst (λ (w : ℕ). Fixing (j .steps) (j .people) (j .class (j .rule i .level)) scope dom 0 used heads w) none-wide whole
 
-  pub judged-most : highest (j .rule i .kind) (j .rule i .limit) (j .steps) < ones heads → JudgedRule j i dom Unsatisfiable
+  pub judged-most : j .rule i .most < ones heads → JudgedRule j i dom Unsatisfiable
   unfolding JudgedRule
   judged-most l π t m =
       let e = counted j (j .rule i) scope dom used heads scoped f few π t in
-      let k = met-interval j (j .rule i) ok π .0 m .most in
-      omega arith
+      omega (arith, m .most)
 
-  pub judged-least : ones heads < lowest (j .rule i .kind) (j .rule i .limit) → JudgedRule j i dom Unsatisfiable
+  pub judged-least : ones heads < j .rule i .least → JudgedRule j i dom Unsatisfiable
   unfolding JudgedRule
   judged-least l π t m =
       let e = counted j (j .rule i) scope dom used heads scoped f few π t in
-      let k = met-interval j (j .rule i) ok π .0 m .least in
-      omega arith
+      omega (arith, m .least)
 
-  pub judged-met : ones heads ≤ highest (j .rule i .kind) (j .rule i .limit) (j .steps) → lowest (j .rule i .kind) (j .rule i .limit) ≤ ones heads → JudgedRule j i dom Found
+  pub judged-met : ones heads ≤ j .rule i .most → j .rule i .least ≤ ones heads → JudgedRule j i dom Found
   unfolding JudgedRule
   judged-met a b π t =
       let e = counted j (j .rule i) scope dom used heads scoped f few π t in
-      met-interval j (j .rule i) ok π .1 (record { least = omega arith; most = omega arith })
+      record { least = omega arith; most = omega arith }
 
 pub rule-tired : (j : Job) (i : ℕ) (dom : List ℕ) → JudgedRule j i dom Tired
 unfolding JudgedRule

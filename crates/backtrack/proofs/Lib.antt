@@ -1,4 +1,3 @@
 pub mod Extending
 pub mod Ending
-pub mod Classes
 pub mod Ordering

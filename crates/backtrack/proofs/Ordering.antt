@@ -8,28 +8,14 @@ use lib.Dec.{eqb, ltb}
 use lib.ListN.{getD}
 use borrow.Author.Tests.{eqb-true, eqb-false, ltb-true, ltb-false, lt-ltb}
 use Rattle.bits.specs.Word.{hasBit}
-use Rattle.bits.specs.Set.{Removed, Lowest}
+use Rattle.bits.specs.Set.{Removed, Lowest, Mask}
 use Rattle.bits.proofs.Below.{by-cases, true-false}
 use Rattle.bits.proofs.SetLaws.{zero-empty, removed-other, removed-was, part-le, mod-bit, full-has}
-use Rattle.eligible.proofs.Open.{span}
-use Rattle.narrow.proofs.Masks.{bits-below}
+use Rattle.bits.proofs.Masks.{bits-below}
 use Rattle.pattern.specs.Tables.{mayIn}
 use Rattle.backtrack.specs.Order.{Single, Several}
 use Rattle.backtrack.specs.Trial.{Alone, Others}
 use Rattle.backtrack.proofs.Extending.{Before}
-
--- all steps
-pub all-steps-has : (steps : ℕ) → steps ≤ 12 → (s : ℕ) → hasBit (4095 % (1 * 2 ^ steps % 65536)) s ≡ ltb s steps
-all-steps-has steps few s =
-    ap (λ (n : ℕ). hasBit (4095 % n) s) (span steps few)
-    ∙ mod-bit steps 4095 s
-    ∙ by-cases (ltb s steps)
-    (λ e. let l = ltb-true s steps e in ap (λ (b : Bool). ltb s steps && b) (full-has 12 s (omega arith)) ∙ and-true (ltb s steps))
-    (λ e. ap (λ (b : Bool). b && hasBit 4095 s) e ∙ sym e)
-  where
-    and-true : (a : Bool) → a && true ≡ a
-    and-true true = refl
-    and-true false = refl
 
 -- nobody, or nobody but the first
 pub single-none : (domain : ℕ) → domain ≡ 0 → Single domain
@@ -92,11 +78,11 @@ pub several-none : (steps rest : ℕ) (dom : List ℕ) (r : ℕ) → Alone steps
 several-none steps rest dom r a w e = subst (λ (x : ℕ). Alone steps x dom) e (several-alone steps rest dom r a w)
 
 -- where no step is left out nothing is asked
-pub all-alone : (steps rest : ℕ) (dom : List ℕ) → ((s : ℕ) → hasBit rest s ≡ ltb s steps) → Alone steps rest dom
+pub all-alone : (steps rest : ℕ) (dom : List ℕ) → Mask (λ s. ltb s steps) rest → Alone steps rest dom
 all-alone steps rest dom all =
     record {
-      below = λ t h. ltb-true t steps (sym (all t) ∙ h);
-      one = λ t p p′ l o. true-false (all t ∙ lt-ltb t steps l) o;
+      below = λ t h. ltb-true t steps (sym (all .each t) ∙ h);
+      one = λ t p p′ l o. true-false (all .each t ∙ lt-ltb t steps l) o;
     }
 
 -- without step s

@@ -3,3 +3,5 @@ pub mod Counting
 pub mod Ones
 pub mod SetLaws
 pub mod Scan
+pub mod Says
+pub mod Masks

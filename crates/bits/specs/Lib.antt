@@ -1,3 +1,4 @@
 pub mod Below
 pub mod Word
 pub mod Set
+pub mod Says

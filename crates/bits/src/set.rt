@@ -1,8 +1,13 @@
 // Sets of numbers below 64 as words: bit i says whether i is in the set.
 ghost use mathlib.Core.Path.{_≡_};
-ghost use Prim.Native.Nat.{_<_};
+ghost use Prim.Native.Nat.{_<_, _≤_};
+ghost use lib.Count.{ones};
+ghost use lib.Dec.{ltb};
 ghost use Rattle.bits.specs.Word.{hasBit};
-ghost use Rattle.bits.specs.Set.{Added, Removed, Lowest};
+ghost use Rattle.bits.specs.Set.{Added, Removed, Lowest, Mask};
+
+// All numbers below 64.
+pub const ALL: u64 = 0xffff_ffff_ffff_ffff;
 
 // Whether `i` is in `m`.
 pub fn has(m: u64, i: usize) -> bool
@@ -35,4 +40,22 @@ pub fn lowest(m: u64) -> usize
     ensures { λ r. ⌜ (r < 64) × Lowest m r ⌝ }
 {
     (u64::trailing_zeros(m) % 64) as usize
+}
+
+// All numbers below `n`.
+pub fn below(n: usize) -> u64
+    requires { ⌜ n ≤ 64 ⌝ }
+    ensures { λ r. ⌜ Mask (λ i. ltb i n) r ⌝ }
+{
+    if n == 64 {
+        return ALL;
+    }
+    (1 << n) - 1
+}
+
+// How many elements `m` has.
+pub fn size(m: u64) -> usize
+    ensures { λ r. ⌜ (r ≡ ones m) × (r ≤ 64) ⌝ }
+{
+    u64::count_ones(m) as usize
 }

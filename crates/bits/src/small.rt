@@ -1,8 +1,11 @@
 // Sets of numbers below 16 as short words: bit i says whether i is in the set.
 ghost use mathlib.Core.Path.{_≡_};
-ghost use Prim.Native.Nat.{_<_};
+ghost use Prim.Native.Nat.{_<_, _≤_};
+ghost use lib.Count.{ones};
+ghost use lib.Dec.{ltb};
+ghost use lib.ListN.{length};
 ghost use Rattle.bits.specs.Word.{hasBit};
-ghost use Rattle.bits.specs.Set.{Added, Removed, Lowest};
+ghost use Rattle.bits.specs.Set.{Added, Removed, Lowest, Mask, LeastKey};
 
 // Whether `i` is in `m`.
 pub fn has(m: u16, i: usize) -> bool
@@ -35,4 +38,37 @@ pub fn lowest(m: u16) -> usize
     ensures { λ r. ⌜ (r < 16) × Lowest m r ⌝ }
 {
     (u16::trailing_zeros(m) % 16) as usize
+}
+
+// All numbers below `n`.
+pub fn below(n: usize) -> u16
+    requires { ⌜ n ≤ 12 ⌝ }
+    ensures { λ r. ⌜ Mask (λ i. ltb i n) r ⌝ }
+{
+    (1 << n) - 1
+}
+
+// The element of a set that has the least key.
+pub fn least_key(key: &[u64; 12], m: u16) -> usize
+    requires { ⌜ (length (now key) ≡ 12) × (m < 4096) × (m ≡ 0 → ⊥) ⌝ }
+    ensures { λ r. ⌜ LeastKey (now (key .entry)) m 0 r ⌝ }
+{
+    let mut best = lowest(m);
+    let mut left = without(m, best);
+    while left != 0 {
+        let i = lowest(left);
+        left = without(left, i);
+        if key[i] >= key[best] {
+            continue;
+        }
+        best = i;
+    }
+    best
+}
+
+// How many elements `m` has.
+pub fn size(m: u16) -> usize
+    ensures { λ r. ⌜ (r ≡ ones m) × (r ≤ 16) ⌝ }
+{
+    u16::count_ones(m) as usize
 }

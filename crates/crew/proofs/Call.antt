@@ -8,7 +8,8 @@ use lib.ListN.{length, getD, drop}
 use denote.Enum.Declared.{tagOf}
 use types.Run.{OneOf}
 use Rattle.sheet.proofs.Reading.{the-type}
-use Rattle.sheet.specs.Answer.{sheetOf, numberOf}
+use Rattle.sheet.specs.Answer.{sheetOf}
+use Rattle.answer.specs.Number.{numberOf}
 use Rattle.sheet.specs.Readable.{ReadableJob}
 use Rattle.sheet.specs.declared.Job as sheet
 use Rattle.sheet.specs.declared.Sheet.{Sheet}
@@ -22,9 +23,9 @@ use Rattle.workflow.proofs.Lists.{planOf-listOf}
 use Rattle.pattern.specs.Tables.{planIn}
 use Rattle.first.specs.Settle.{answer}
 use Rattle.instance.specs.Instance.{instanceOf, mayOf, crewTags}
-use Rattle.crew.specs.Bytes.{Outcome, written}
+use Rattle.answer.specs.Bytes.{Outcome, written}
 use Rattle.crew.specs.Crew.{crewAnswer, crewOf}
-use Rattle.crew.specs.Number.{Numbered}
+use Rattle.answer.specs.Number.{Numbered}
 use Rattle.crew.proofs.Read.{crew-read, crew-refused, crew-short, crew-none, crew-found, tags-cong}
 
 -- an answer of the second kind is a refusal

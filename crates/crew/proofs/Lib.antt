@@ -1,4 +1,3 @@
 pub mod Put
 pub mod Read
-pub mod Posed
 pub mod Call

@@ -12,8 +12,9 @@ use Rattle.sheet.specs.declared.Reading.the-variants.{Readable, Refused}
 use Rattle.sheet.proofs.Readable.{read-sheet-job}
 use Rattle.workflow.specs.First.{found, nothing, firstPlan}
 use Rattle.instance.specs.Instance.{instanceOf, mayOf, crewTags}
-use Rattle.crew.specs.Bytes.{refused, written}
-use Rattle.crew.specs.Crew.{crewAnswer, crewRead, crewOf, planned, shortFault, planFault}
+use Rattle.answer.specs.Bytes.{refused, written}
+use Rattle.answer.specs.Refusals.{shortFault, planFault}
+use Rattle.crew.specs.Crew.{crewAnswer, crewRead, crewOf, planned}
 
 module _ (s buffer : List ℕ) where
   -- a sheet that was read

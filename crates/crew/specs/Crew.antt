@@ -9,14 +9,8 @@ use Rattle.sheet.specs.Read.{Read, job, fault, readSheet}
 use Rattle.sheet.specs.declared.Job as sheet
 use Rattle.workflow.specs.First.{Found, found, nothing, firstPlan}
 use Rattle.instance.specs.Instance.{instanceOf, mayOf, crewTags}
-use Rattle.crew.specs.Bytes.{Outcome, refused, written}
-
--- "1: answer buffer too short. Card 0." "13: no valid plan with everyone present. Card 0."
-abbrev pub shortFault : ℕ
-shortFault = 1
-
-abbrev pub planFault : ℕ
-planFault = 13
+use Rattle.answer.specs.Refusals.{shortFault, planFault}
+use Rattle.answer.specs.Bytes.{Outcome, refused, written}
 
 -- "Crew: 8 bytes a step, step tag then person tag, steps in chain order." "Later bytes of the buffer keep their values."
 unfoldable pub planned : sheet.Job → ℕ → List ℕ → Found → Outcome

@@ -1,3 +1,1 @@
-pub mod Bytes
 pub mod Crew
-pub mod Number

@@ -1,21 +1,11 @@
 // The crew, written into the caller's buffer: 8 bytes a step.
+use answer::bytes::put_long;
 ghost use mathlib.Core.List.{_++_};
 ghost use mathlib.Core.Path.{_≡_};
-ghost use Prim.Native.Nat.{ℕ, _+_, _*_, _<_, _≤_};
+ghost use Prim.Native.Nat.{ℕ, _*_, _<_, _≤_};
 ghost use lib.ListN.{length, getD, drop};
 ghost use Rattle.instance.specs.Instance.{crewTags};
-ghost use Rattle.crew.specs.Bytes.{longBytes, putAt, written};
-
-// Writes a number as four bytes, the low one first.
-pub fn put_long(out: &mut [u8], at: usize, x: u32)
-    requires { ⌜ at + 4 ≤ length (now out) ⌝ }
-    ensures { λ _. ⌜ now (out .exit) ≡ putAt (now (out .entry)) at (longBytes x) ⌝ }
-{
-    out[at] = (x % 256) as u8;
-    out[at + 1] = (x / 256 % 256) as u8;
-    out[at + 2] = (x / 65536 % 256) as u8;
-    out[at + 3] = (x / 16777216 % 256) as u8;
-}
+ghost use Rattle.answer.specs.Bytes.{written};
 
 // Writes the step's tag and the person's tag of each step.
 pub fn write_crew(

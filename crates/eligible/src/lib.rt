@@ -4,45 +4,21 @@ use bits::set;
 use bits::small::lowest;
 use bits::small::with;
 use bits::small::without;
+use pattern::rule;
 ghost use mathlib.Core.Path.{_≡_};
 ghost use mathlib.Core.Bool.{not, _&&_};
 ghost use Prim.Native.Nat.{_≤_};
 ghost use Rattle.bits.specs.Below.{count};
+ghost use Rattle.bits.specs.Says.{Says};
 ghost use Rattle.bits.specs.Word.{hasBit};
 ghost use Rattle.workflow.specs.Problem.{distinct};
-ghost use Rattle.workflow.specs.Interval.{lowest as lowestCount, highest};
 ghost use Rattle.pattern.specs.Eligible.{Possible};
-ghost use Rattle.pattern.specs.Tables.{labelIn, kindIn};
-ghost use Rattle.eligible.specs.Rules.{Says, ruleOf, Marked, AllPossible, Ruled, Among, RuledAmong};
+ghost use Rattle.pattern.specs.Rule.{unpacked, levelIn};
+ghost use Rattle.pattern.specs.Tables.{labelIn};
+ghost use Rattle.eligible.specs.Rules.{Marked, Rules, Among};
 
 // Labels a level.
 const STEPS: usize = 12;
-
-// The least count of a rule.
-pub fn least(kind: u8, limit: u8) -> u8
-    ensures { λ r. ⌜ r ≡ lowestCount (kindIn kind) limit ⌝ }
-{
-    if kind >= 4 {
-        return limit;
-    }
-    if kind == 2 {
-        return 2;
-    }
-    0
-}
-
-// The greatest count of a rule.
-pub fn most(kind: u8, limit: u8, steps: usize) -> usize
-    ensures { λ r. ⌜ r ≡ highest (kindIn kind) limit steps ⌝ }
-{
-    if kind <= 1 {
-        return 1;
-    }
-    if kind == 3 {
-        return limit as usize;
-    }
-    steps
-}
 
 // The number of groups of a level over the placed steps of a scope.
 fn group_count(steps: usize, scope: u16, level: usize, placed: u16, label: &[u8; 36]) -> usize
@@ -70,82 +46,28 @@ pub fn open_count(steps: usize, scope: u16, placed: u16) -> usize
 }
 
 // Whether a rule can still be met.
-fn possible(
-    steps: usize,
-    kind: u8,
-    level: usize,
-    limit: u8,
-    scope: u16,
-    placed: u16,
-    label: &[u8; 36],
-) -> bool
-    requires { ⌜ Marked steps placed level (now label) ⌝ }
-    ensures { λ r. ⌜ Says r (Possible steps (hasBit placed) (labelIn (now (label .entry))) (ruleOf kind level limit scope)) ⌝ }
+fn possible(steps: usize, rule: u32, placed: u16, label: &[u8; 36]) -> bool
+    requires { ⌜ Marked steps placed (levelIn rule) (now label) ⌝ }
+    ensures { λ r. ⌜ Says r (Possible steps (hasBit placed) (labelIn (now (label .entry))) (unpacked rule)) ⌝ }
 {
-    let groups = group_count(steps, scope, level, placed, label);
-    if groups > most(kind, limit, steps) {
+    let scope = rule::scope(rule);
+    let groups = group_count(steps, scope, rule::level(rule), placed, label);
+    if groups > rule::most(rule) {
         return false;
     }
-    least(kind, limit) as usize <= groups + open_count(steps, scope, placed)
-}
-
-// Whether every rule can still be met.
-pub fn eligible(
-    steps: usize,
-    rules: usize,
-    kind: &[u8; 64],
-    level: &[u8; 64],
-    limit: &[u8; 64],
-    scope: &[u16; 64],
-    placed: u16,
-    label: &[u8; 36],
-) -> bool
-    requires { ⌜ Ruled steps rules (now kind) (now level) (now limit) (now scope) placed (now label) ⌝ }
-    ensures { λ r. ⌜ Says r (AllPossible steps rules (now (kind .entry)) (now (level .entry)) (now (limit .entry)) (now (scope .entry)) placed (now (label .entry))) ⌝ }
-{
-    for i in 0..rules {
-        if !possible(
-            steps,
-            kind[i],
-            level[i] as usize,
-            limit[i],
-            scope[i],
-            placed,
-            label,
-        ) {
-            return false;
-        }
-    }
-    true
+    rule::least(rule) <= groups + open_count(steps, scope, placed)
 }
 
 // Whether every rule of a mask can still be met.
-pub fn eligible_among(
-    steps: usize,
-    among: u64,
-    kind: &[u8; 64],
-    level: &[u8; 64],
-    limit: &[u8; 64],
-    scope: &[u16; 64],
-    placed: u16,
-    label: &[u8; 36],
-) -> bool
-    requires { ⌜ RuledAmong steps among (now kind) (now level) (now limit) (now scope) placed (now label) ⌝ }
-    ensures { λ r. ⌜ Says r (Among steps among 0 (now (kind .entry)) (now (level .entry)) (now (limit .entry)) (now (scope .entry)) placed (now (label .entry))) ⌝ }
+pub fn eligible(steps: usize, among: u64, rule: &[u32; 64], placed: u16, label: &[u8; 36]) -> bool
+    requires { ⌜ Rules steps among (now rule) placed (now label) ⌝ }
+    ensures { λ r. ⌜ Says r (Among steps among 0 (now (rule .entry)) placed (now (label .entry))) ⌝ }
 {
     let mut rest = among;
     while rest != 0 {
         let i = set::lowest(rest);
         rest = set::without(rest, i);
-        if !possible(
-            steps,
-            kind[i],
-            level[i] as usize,
-            limit[i],
-            scope[i],
-            placed,
-            label,
-        ) {
+        if !possible(steps, rule[i], placed, label) {
             return false;
         }
     }

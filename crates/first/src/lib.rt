@@ -4,15 +4,15 @@ use backtrack::Tried;
 use backtrack::attempt;
 use bits::set::lowest;
 use bits::set::without;
-use levels::Size;
-use search::choose::weights;
+use pattern::Size;
 use search::exists::exists;
+use search::weights::weights;
 ghost use mathlib.Core.Path.{_≡_};
 ghost use Prim.Native.Nat.{_+_, _<_};
 ghost use lib.ListN.{length};
 ghost use Rattle.workflow.specs.First.{firstPlan};
 ghost use Rattle.pattern.specs.Tables.{mayIn, planIn, jobIn};
-ghost use Rattle.levels.specs.Given.{Given};
+ghost use Rattle.levels.specs.Tabled.{Tabled};
 ghost use Rattle.first.specs.Settle.{Standing, Settled, answer};
 
 // How many rules the search over people may look at.
@@ -29,19 +29,18 @@ pub struct Found {
 fn settle(
     size: Size,
     class: &[u8; 192],
-    kind: &[u8; 64],
-    level: &[u8; 64],
-    limit: &[u8; 64],
-    scope: &[u16; 64],
+    crowd: &[u64; 192],
+    rule: &[u32; 64],
+    of: &[u64; 12],
     s: usize,
     may: &mut [u64; 12],
     weight: &mut [u32; 12],
     plan: &mut [u8; 12],
 )
-    requires { ⌜ Given (size .steps) (size .people) (size .levels) (size .rules) (now class) (now kind) (now level) (now limit) (now scope)
+    requires { ⌜ Tabled size (now class) (now crowd) (now rule) (now of)
         × (length (now may) ≡ 12) × (length (now weight) ≡ 12) × (length (now plan) ≡ 12) × (s < size .steps)
-        × Standing (jobIn (size .steps) (size .people) (size .levels) (now class) (size .rules) (now kind) (now level) (now limit) (now scope)) (mayIn (now may)) s (planIn (now plan)) ⌝ }
-    ensures { λ _. ⌜ Settled (jobIn (size .steps) (size .people) (size .levels) (now (class .entry)) (size .rules) (now (kind .entry)) (now (level .entry)) (now (limit .entry)) (now (scope .entry)))
+        × Standing (jobIn size (now class) (now rule)) (mayIn (now may)) s (planIn (now plan)) ⌝ }
+    ensures { λ _. ⌜ Settled (jobIn size (now (class .entry)) (now (rule .entry)))
         (s + 1) (now (may .entry)) (now (may .exit)) (now (plan .exit)) × (length (now (weight .exit)) ≡ 12) ⌝ }
 {
     let p = plan[s];
@@ -50,7 +49,7 @@ fn settle(
         let q = lowest(left);
         left = without(left, q);
         may[s] = 1 << q;
-        if exists(size, class, kind, level, limit, scope, may, weight, plan) {
+        if exists(size, class, crowd, rule, of, may, weight, plan) {
             return;
         }
     }
@@ -61,30 +60,19 @@ fn settle(
 fn from_any(
     size: Size,
     class: &[u8; 192],
-    kind: &[u8; 64],
-    level: &[u8; 64],
-    limit: &[u8; 64],
-    scope: &[u16; 64],
+    crowd: &[u64; 192],
+    rule: &[u32; 64],
+    of: &[u64; 12],
     may: &[u64; 12],
 ) -> Found
-    requires { ⌜ Given (size .steps) (size .people) (size .levels) (size .rules) (now class) (now kind) (now level) (now limit) (now scope)
+    requires { ⌜ Tabled size (now class) (now crowd) (now rule) (now of)
         × (length (now may) ≡ 12) ⌝ }
-    ensures { λ r. ⌜ firstPlan (jobIn (size .steps) (size .people) (size .levels) (now (class .entry)) (size .rules) (now (kind .entry)) (now (level .entry)) (now (limit .entry)) (now (scope .entry)))
+    ensures { λ r. ⌜ firstPlan (jobIn size (now (class .entry)) (now (rule .entry)))
         (mayIn (now (may .entry))) ≡ answer (size .steps) (r .found) (r .plan) ⌝ }
 {
-    let mut weight = weights(size.steps, size.rules, scope);
+    let mut weight = weights(of);
     let mut plan = [0u8; 12];
-    if !exists(
-        size,
-        class,
-        kind,
-        level,
-        limit,
-        scope,
-        may,
-        &mut weight,
-        &mut plan,
-    ) {
+    if !exists(size, class, crowd, rule, of, may, &mut weight, &mut plan) {
         return Found {
             found: false,
             plan: plan,
@@ -96,10 +84,9 @@ fn from_any(
         settle(
             size,
             class,
-            kind,
-            level,
-            limit,
-            scope,
+            crowd,
+            rule,
+            of,
             s,
             &mut left,
             &mut weight,
@@ -116,30 +103,18 @@ fn from_any(
 pub fn first_plan(
     size: Size,
     class: &[u8; 192],
-    kind: &[u8; 64],
-    level: &[u8; 64],
-    limit: &[u8; 64],
-    scope: &[u16; 64],
+    crowd: &[u64; 192],
+    rule: &[u32; 64],
+    of: &[u64; 12],
     may: &[u64; 12],
 ) -> Found
-    requires { ⌜ Given (size .steps) (size .people) (size .levels) (size .rules) (now class) (now kind) (now level) (now limit) (now scope)
+    requires { ⌜ Tabled size (now class) (now crowd) (now rule) (now of)
         × (length (now may) ≡ 12) ⌝ }
-    ensures { λ r. ⌜ firstPlan (jobIn (size .steps) (size .people) (size .levels) (now (class .entry)) (size .rules) (now (kind .entry)) (now (level .entry)) (now (limit .entry)) (now (scope .entry)))
+    ensures { λ r. ⌜ firstPlan (jobIn size (now (class .entry)) (now (rule .entry)))
         (mayIn (now (may .entry))) ≡ answer (size .steps) (r .found) (r .plan) ⌝ }
 {
     let mut plan = [0u8; 12];
-    let tried = attempt(
-        size,
-        class,
-        kind,
-        level,
-        limit,
-        scope,
-        may,
-        true,
-        EFFORT,
-        &mut plan,
-    );
+    let tried = attempt(size, class, crowd, rule, of, may, true, EFFORT, &mut plan);
     match tried {
         Tried::Found => {
             return Found {
@@ -154,7 +129,7 @@ pub fn first_plan(
             };
         }
         Tried::Tired => {
-            return from_any(size, class, kind, level, limit, scope, may);
+            return from_any(size, class, crowd, rule, of, may);
         }
     }
 }

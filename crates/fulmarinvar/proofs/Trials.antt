@@ -8,7 +8,7 @@ use Rattle.sheet.specs.Answer.{jobOf, table}
 use Rattle.workflow.specs.Problem.{opens, distinct, authorisedTest, eligibleTest, valid}
 use Rattle.workflow.specs.First.{firstPlan, firstOf, tryAll}
 use Rattle.instance.specs.Instance.{crewTags}
-use Rattle.crew.specs.Bytes.{written}
+use Rattle.answer.specs.Bytes.{written}
 use Rattle.crew.specs.Crew.{planned, crewOf, crewRead}
 use Rattle.resiliency.specs.Away as away
 use Rattle.resiliency.specs.Away.{breaking, increasing}

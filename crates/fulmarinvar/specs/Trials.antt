@@ -4,7 +4,7 @@ use mathlib.Core.Path.{_≡_}
 use Prim.Native.Nat.{ℕ}
 use lib.ListN.{replicate}
 use Rattle.instance.specs.Sheets.{sheetW, sheet3, sheet9, sheetWith, sheetOne}
-use Rattle.crew.specs.Bytes.{Outcome, refused, written}
+use Rattle.answer.specs.Bytes.{Outcome, refused, written}
 use Rattle.crew.specs.Crew.{crewAnswer}
 use Rattle.resiliency.specs.Spare.{spareAnswer}
 

@@ -18,6 +18,7 @@ use Rattle.sheet.specs.Readable.{ReadableJob}
 use Rattle.sheet.specs.declared.Job as sheet
 use Rattle.workflow.specs.Problem.{Kind, Nested, RuleOk, Fits}
 use Rattle.workflow.specs.Numbered.{kindIn}
+use Rattle.workflow.proofs.Rules.{ruleOf-ok}
 use Rattle.instance.specs.Instance.{instanceOf}
 
 -- a scope without steps from n on has as many steps below any larger bound
@@ -72,13 +73,16 @@ module _ (people steps rules : ℕ) (j : sheet.Job) (r : ReadableJob people step
       finer (suc (suc zero)) p p′ a b l m e = ap (λ (x : ℕ). getD (j .bench) x 0) e
       finer (suc (suc (suc q))) p p′ a b l m e = absurd (omega arith)
 
+  -- each rule fits its kind
+  pub instance-fits : (i : ℕ) → i < rules
+      → Fits (kindIn (getD (j .«rule_kind») i 0)) (getD (j .«rule_limit») i 0) (count steps (hasBit (getD (j .«rule_scope») i 0)))
+  instance-fits i l =
+      let k = r .rule i l in
+      subst (Fits (kindIn (getD (j .«rule_kind») i 0)) (getD (j .«rule_limit») i 0)) (scope-size steps (getD (j .«rule_scope») i 0) (r .steps-most) (k .scope))
+      (fits (getD (j .«rule_kind») i 0) (getD (j .«rule_limit») i 0) (bitsSet 16 (getD (j .«rule_scope») i 0)) (k .limit))
+
   pub instance-rules : (i : ℕ) → i < rules → RuleOk steps 3 (instanceOf people steps rules j .rule i)
   instance-rules i l =
       let k = r .rule i l in
-      record {
-        from = k .level-from;
-        to = k .level-to;
-        fits =
-            subst (Fits (kindIn (getD (j .«rule_kind») i 0)) (getD (j .«rule_limit») i 0)) (scope-size steps (getD (j .«rule_scope») i 0) (r .steps-most) (k .scope))
-            (fits (getD (j .«rule_kind») i 0) (getD (j .«rule_limit») i 0) (bitsSet 16 (getD (j .«rule_scope») i 0)) (k .limit));
-      }
+      ruleOf-ok steps 3 (kindIn (getD (j .«rule_kind») i 0)) (getD (j .«rule_level») i 0) (getD (j .«rule_limit») i 0) (hasBit (getD (j .«rule_scope») i 0))
+      (k .level-from) (k .level-to) (instance-fits i l)

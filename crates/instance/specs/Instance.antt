@@ -5,7 +5,7 @@ use lib.ListN.{getD}
 use Rattle.bits.specs.Word.{hasBit}
 use Rattle.sheet.specs.declared.Job as sheet
 use Rattle.workflow.specs.Problem.{Job, May}
-use Rattle.workflow.specs.Numbered.{ruleIn}
+use Rattle.workflow.specs.Numbered.{cardRule}
 
 -- "Level 1 is the shop, 2 the bench, 3 the person."
 abbrev pub classAt : sheet.Job → ℕ → ℕ → ℕ
@@ -23,7 +23,7 @@ instanceOf people steps rules j =
       levels = 3;
       class = classAt j;
       rules = rules;
-      rule = ruleIn (j .«rule_kind») (j .«rule_level») (j .«rule_limit») (j .«rule_scope»);
+      rule = cardRule steps (j .«rule_kind») (j .«rule_level») (j .«rule_limit») (j .«rule_scope»);
     }
 
 -- "the steps permitted, bit j for step j"

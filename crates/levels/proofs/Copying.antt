@@ -8,6 +8,7 @@ use lib.ListN.{length, getD, set, length-set}
 use lib.Seq.{getD-set-same, getD-set-other}
 use borrow.Author.Tests.{eqb-true, eqb-false}
 use Rattle.bits.proofs.Below.{by-cases}
+use Rattle.pattern.specs.Rule.{levelIn, leastIn, mostIn, scopeIn, Packed}
 use Rattle.levels.specs.Trims.{Numbered, Rows, Renumbered}
 
 -- the first n entries are those that f gives
@@ -29,10 +30,6 @@ copied-more size n f xs l w =
 abbrev pub rowEntry : List ℕ → List ℕ → ℕ → ℕ
 rowEntry old class x = getD class ((getD old (x / 64 + 1) 0 - 1) * 64 + x % 64) 0
 
--- the level of rule i in the new numbers
-abbrev pub newLevel : List ℕ → List ℕ → ℕ → ℕ
-newLevel level new i = getD new (getD level i 0) 0
-
 -- the old level of an entry
 pub row-from : {levels marks n : ℕ} {old new : List ℕ} → Numbered levels marks n old new → (x : ℕ) → x < n * 64 → 1 ≤ getD old (x / 64 + 1) 0
 row-from w x l = w .keeps .from (x / 64 + 1) (omega arith) (omega arith)
@@ -50,5 +47,23 @@ copied-rows n x old class class′ w l =
           w .each ((k - 1) * 64 + p) (omega arith) ∙ ap₂ (λ (u v : ℕ). getD class ((getD old u 0 - 1) * 64 + v) 0) e f;
     }
 
-pub copied-levels : (rules i : ℕ) (level new level′ : List ℕ) → Copied 64 i (newLevel level new) level′ → rules ≤ i → Renumbered rules level new level′
-copied-levels rules i level new level′ w l = record { sized = w .sized; each = λ k b. w .each k (omega arith) }
+-- one rule more has its new level
+pub renumbered-more : (n x : ℕ) (rule new rule′ : List ℕ) → n < 64
+    → Packed (getD new (levelIn (getD rule n 0)) 0 % 16) (leastIn (getD rule n 0)) (mostIn (getD rule n 0)) (scopeIn (getD rule n 0)) x
+    → Renumbered n rule new rule′ → Renumbered (n + 1) rule new (set rule′ n x)
+renumbered-more n x rule new rule′ l p w =
+    record {
+      sized = length-set rule′ n x ∙ w .sized;
+      each = λ i b.
+          by-cases (eqb i n)
+          (λ t.
+          let e : i ≡ n = eqb-true i n t in
+          subst (λ (k : ℕ). Is k (getD (set rule′ n x) k 0)) (sym e)
+          (subst (Is n) (sym (getD-set-same rule′ n x 0 (omega (arith, w .sized)))) p))
+          (λ t.
+          let d : i ≡ n → ⊥ = eqb-false i n t in
+          subst (Is i) (sym (getD-set-other rule′ n i x 0 d)) (w .each i (omega arith)));
+    }
+  where
+    Is : ℕ → ℕ → Type 0
+    Is i r = Packed (getD new (levelIn (getD rule i 0)) 0 % 16) (leastIn (getD rule i 0)) (mostIn (getD rule i 0)) (scopeIn (getD rule i 0)) r

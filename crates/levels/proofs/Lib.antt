@@ -1,3 +1,6 @@
+pub mod Keeping
 pub mod Numbering
 pub mod Copying
 pub mod Trimming
+pub mod Crowds
+pub mod Names

@@ -13,15 +13,15 @@ use Rattle.bits.specs.Word.{hasBit}
 use Rattle.bits.specs.Set.{Added}
 use Rattle.bits.proofs.Below.{by-cases}
 use Rattle.bits.proofs.SetLaws.{added-has, added-keeps}
-use Rattle.pattern.specs.Kept.{Keeps}
-use Rattle.pattern.proofs.Kept.{keeps-none, keeps-skip, keeps-take}
-use Rattle.levels.specs.Trims.{Marks, Numbered}
+use Rattle.pattern.specs.Rule.{levelIn}
+use Rattle.levels.specs.Trims.{Keeps, Marks, Numbered}
+use Rattle.levels.proofs.Keeping.{keeps-none, keeps-skip, keeps-take}
 
-pub marks-more : (i all all′ : ℕ) (level : List ℕ) → Added all (getD level i 0) all′ → Marks i level all → Marks (i + 1) level all′
-marks-more i all all′ level a w k l =
+pub marks-more : (i all level all′ : ℕ) (rule : List ℕ) → level ≡ levelIn (getD rule i 0) → Added all level all′ → Marks i rule all → Marks (i + 1) rule all′
+marks-more i all level all′ rule e a w k l =
     by-cases (eqb k i)
-    (λ x. subst (λ (v : ℕ). hasBit all′ (getD level v 0) ≡ true) (sym (eqb-true k i x)) (added-has a))
-    (λ x. let n : k ≡ i → ⊥ = eqb-false k i x in added-keeps a (getD level k 0) (w k (omega arith)))
+    (λ x. subst (λ (v : ℕ). hasBit all′ (levelIn (getD rule v 0)) ≡ true) (sym (eqb-true k i x)) (subst (λ (v : ℕ). hasBit all′ v ≡ true) e (added-has a)))
+    (λ x. let n : k ≡ i → ⊥ = eqb-false k i x in added-keeps a (levelIn (getD rule k 0)) (w k (omega arith)))
 
 pub numbered-none : (m : ℕ) (old new : List ℕ) → length old ≡ 4 → length new ≡ 4 → Numbered 0 m 0 old new
 numbered-none m old new e f = record { olds = e; news = f; few = omega arith; keeps = keeps-none (hasBit m) _ _ }

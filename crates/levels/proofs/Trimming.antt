@@ -1,125 +1,121 @@
 -- A job without the levels that no rule names has the same valid plans, and is one that the search can take. Assumes nothing.
 use mathlib.Core.List.{List}
-use mathlib.Core.Logic.{_↔_}
 use mathlib.Core.Path.{_≡_, refl, sym, subst, ap, ap₂, _∙_}
-use Prim.Native.Nat.{ℕ, suc, _≤_, _<_}
+use Prim.Native.Nat.{ℕ, suc, _*_, _%_, _^_, _≤_, _<_}
 use native.Mathlib.Omega.{arith}
 use lib.Dec.{eqb}
 use lib.ListN.{getD}
+use Rattle.bits.specs.Below.{count}
 use Rattle.bits.specs.Word.{hasBit}
 use Rattle.bits.proofs.Below.{first-cong}
-use Rattle.workflow.specs.Problem.{Job, May, Plan, Valid, Asks, distinct}
-use Rattle.workflow.specs.First.{Found, found, nothing, planOf, firstPlan, IsFirst}
-use Rattle.workflow.proofs.Counts.{distinct-cong}
-use Rattle.workflow.proofs.First.{firstPlan-is-first, firstPlan-unique}
+use Rattle.workflow.specs.Problem.{Job, RuleOk}
+use Rattle.workflow.specs.Same.{Renamed}
+use Rattle.workflow.proofs.Same.{renamed-same}
+use Rattle.pattern.specs.declared.Size.{Size}
+use Rattle.pattern.specs.Given.{Ruled, Given}
+use Rattle.pattern.specs.Pattern.{Refining}
 use Rattle.pattern.specs.Realize.{leader}
-use Rattle.pattern.specs.Search.{Searchable}
-use Rattle.pattern.specs.Tables.{classIn, kindIn, jobIn}
+use Rattle.pattern.specs.Rule.{levelIn, leastIn, mostIn, scopeIn}
+use Rattle.pattern.specs.Tables.{classIn, ruleIn, jobIn}
 use Rattle.pattern.proofs.Levels.{refining-up}
-use Rattle.levels.specs.Given.{Given}
-use Rattle.levels.specs.Trims.{Levelled, Marks, Numbered, Rows, Renumbered, Trims}
+use Rattle.levels.specs.Tabled.{Gathered, Naming}
+use Rattle.levels.specs.Trims.{Marks, Numbered, Rows, Renumbered, Trims}
 
--- jobs with the same steps and the same valid plans have the same first plan
-pub first-same : (j j′ : Job) (may : May) → j′ .steps ≡ j .steps → ((π : Plan) → Valid j′ may π ↔ Valid j may π) → firstPlan j′ may ≡ firstPlan j may
-first-same j j′ may e same = sym (firstPlan-unique j may (firstPlan j′ may) (carry (firstPlan j′ may) (firstPlan-is-first j′ may)))
-  where
-    carry : (r : Found) → IsFirst j′ may r → IsFirst j may r
-    carry (found xs) h = (
-      h .0 ∙ e,
-      record {
-        valid = same (planOf xs) .0 (h .1 .valid);
-        first = λ σ v x. h .1 .first σ (same σ .1 v) (record { at = x .at; below = subst (λ (n : ℕ). x .at < n) (sym e) (x .below); less = x .less; before = x .before });
-      },
-    )
-    carry nothing h = λ π v. h π (same π .1 v)
+module _ (size : Size) (n marks : ℕ) (class rule class′ rule′ old new : List ℕ) (given : Given size class rule) (marked : Marks (size .rules) rule marks)
+    (numbered : Numbered (size .levels) marks n old new) (rows : Rows n old class class′) (renumbered : Renumbered (size .rules) rule new rule′) where
+  abbrev size′ : Size
+  size′ = record { steps = size .steps; people = size .people; levels = n; rules = size .rules }
 
-module _ (steps people levels rules n marks : ℕ) (class level class′ level′ old new : List ℕ) (levelled : Levelled levels rules level)
-    (marked : Marks rules level marks) (numbered : Numbered levels marks n old new) (rows : Rows n old class class′) (renumbered : Renumbered rules level new level′)
-    (kind limit scope : List ℕ) (given : Given steps people levels rules class kind level limit scope) where
   abbrev was : Job
-  was = jobIn steps people levels class rules kind level limit scope
+  was = jobIn size class rule
 
   abbrev is : Job
-  is = jobIn steps people n class′ rules kind level′ limit scope
+  is = jobIn size′ class′ rule′
 
-  new-from : (i : ℕ) → i < rules → 1 ≤ getD level′ i 0
-  new-from i l = subst (λ (k : ℕ). 1 ≤ k) (sym (renumbered .each i l)) (numbered .keeps .new-from (getD level i 0) (levelled .from i l) (levelled .to i l) (marked i l))
+  -- the level of a rule, and its new number
+  ok : (i : ℕ) → i < size .rules → RuleOk (size .steps) (size .levels) (ruleIn rule i)
+  ok i l = given .ruled .rule-ok i l
 
-  new-to : (i : ℕ) → i < rules → getD level′ i 0 ≤ n
-  new-to i l = subst (λ (k : ℕ). k ≤ n) (sym (renumbered .each i l)) (numbered .keeps .new-to (getD level i 0) (levelled .from i l) (levelled .to i l) (marked i l))
+  moved : (i : ℕ) → i < size .rules → levelIn (getD rule′ i 0) ≡ getD new (levelIn (getD rule i 0)) 0
+  moved i l =
+      let k = numbered .keeps .new-to (levelIn (getD rule i 0)) (ok i l .from) (ok i l .to) (marked i l) in
+      let e = renumbered .each i l .its-level in
+      omega (arith, numbered .few, given .ruled .few-levels)
+
+  new-from : (i : ℕ) → i < size .rules → 1 ≤ levelIn (getD rule′ i 0)
+  new-from i l = subst (λ (k : ℕ). 1 ≤ k) (sym (moved i l)) (numbered .keeps .new-from (levelIn (getD rule i 0)) (ok i l .from) (ok i l .to) (marked i l))
+
+  new-to : (i : ℕ) → i < size .rules → levelIn (getD rule′ i 0) ≤ n
+  new-to i l = subst (λ (k : ℕ). k ≤ n) (sym (moved i l)) (numbered .keeps .new-to (levelIn (getD rule i 0)) (ok i l .from) (ok i l .to) (marked i l))
 
   -- a rule sees the same classes
-  same-class : (i p : ℕ) → i < rules → p < people → classIn class′ (getD level′ i 0) p ≡ classIn class (getD level i 0) p
+  same-class : (i p : ℕ) → i < size .rules → p < size .people → classIn class′ (levelIn (getD rule′ i 0)) p ≡ classIn class (levelIn (getD rule i 0)) p
   same-class i p l b =
-      rows .each (getD level′ i 0) p (new-from i l) (new-to i l) (omega (arith, given .few-people))
-      ∙ ap (λ (q : ℕ). classIn class (getD old q 0) p) (renumbered .each i l)
-      ∙ ap (λ (q : ℕ). classIn class q p) (numbered .keeps .back (getD level i 0) (levelled .from i l) (levelled .to i l) (marked i l))
+      rows .each (levelIn (getD rule′ i 0)) p (new-from i l) (new-to i l) (omega (arith, given .few-people))
+      ∙ ap (λ (q : ℕ). classIn class (getD old q 0) p) (moved i l)
+      ∙ ap (λ (q : ℕ). classIn class q p) (numbered .keeps .back (levelIn (getD rule i 0)) (ok i l .from) (ok i l .to) (marked i l))
 
-  same-count : (i : ℕ) → i < rules → (π : Plan) → ((s : ℕ) → s < steps → π s < people)
-      → distinct steps (hasBit (getD scope i 0)) (λ s. classIn class′ (getD level′ i 0) (π s)) ≡ distinct steps (hasBit (getD scope i 0)) (λ s. classIn class (getD level i 0) (π s))
-  same-count i l π within = distinct-cong steps (hasBit (getD scope i 0)) _ _ (λ s b h. same-class i (π s) l (within s b))
-
-  valid-trimmed : (may : May) (π : Plan) → Valid is may π ↔ Valid was may π
-  valid-trimmed may π = (
-    λ v. record {
-      within = v .within;
-      authorised = v .authorised;
-      eligible = λ i l. subst (λ (k : ℕ). Asks (kindIn (getD kind i 0)) (getD limit i 0) k) (same-count i l π (v .within)) (v .eligible i l);
-    },
-    λ v. record {
-      within = v .within;
-      authorised = v .authorised;
-      eligible = λ i l. subst (λ (k : ℕ). Asks (kindIn (getD kind i 0)) (getD limit i 0) k) (sym (same-count i l π (v .within))) (v .eligible i l);
-    },
-  )
-
-  row : (k p : ℕ) → 1 ≤ k → k ≤ n → p < people → classIn class′ k p ≡ classIn class (getD old k 0) p
-  row k p a b l = rows .each k p a b (omega (arith, given .few-people))
-
-  searchable : Searchable is
-  searchable =
+  renamed : Renamed was is
+  renamed =
       record {
-        refining = record {
-          finer = λ q p p′ a b l l′ e.
-              row q p a (omega arith) l
-              ∙ refining-up was (given .searchable .refining) (getD old q 0) (getD old (suc q) 0) (numbered .keeps .from q a (omega arith))
-              (omega (arith, numbered .keeps .ordered q a b)) (numbered .keeps .to (suc q) (omega arith) b) p p′ l l′
-              (sym (row (suc q) p (omega arith) b l) ∙ e ∙ row (suc q) p′ (omega arith) b l′)
-              ∙ sym (row q p′ a (omega arith) l′);
-        };
-        rule-ok = λ i l. record { from = new-from i l; to = new-to i l; fits = given .searchable .rule-ok i l .fits };
+        steps = refl;
+        people = refl;
+        rules = refl;
+        least = λ i l. renumbered .each i l .its-least;
+        most = λ i l. renumbered .each i l .its-most;
+        scope = λ i s l. ap (λ (m : ℕ). hasBit m s) (renumbered .each i l .its-scope);
+        classes = λ i p p′ l a b. (
+          λ e. same-class i p l a ∙ e ∙ sym (same-class i p′ l b),
+          λ e. sym (same-class i p l a) ∙ e ∙ same-class i p′ l b,
+        );
       }
 
-  leaders : (q p : ℕ) → 1 ≤ q → q ≤ n → p < people → classIn class′ q p ≡ leader is q p
+  row : (k p : ℕ) → 1 ≤ k → k ≤ n → p < size .people → classIn class′ k p ≡ classIn class (getD old k 0) p
+  row k p a b l = rows .each k p a b (omega (arith, given .few-people))
+
+  refining : Refining is
+  refining =
+      record {
+        finer = λ q p p′ a b l l′ e.
+            row q p a (omega arith) l
+            ∙ refining-up was (given .refining) (getD old q 0) (getD old (suc q) 0) (numbered .keeps .from q a (omega arith))
+            (omega (arith, numbered .keeps .ordered q a b)) (numbered .keeps .to (suc q) (omega arith) b) p p′ l l′
+            (sym (row (suc q) p (omega arith) b l) ∙ e ∙ row (suc q) p′ (omega arith) b l′)
+            ∙ sym (row q p′ a (omega arith) l′);
+      }
+
+  leaders : (q p : ℕ) → 1 ≤ q → q ≤ n → p < size .people → classIn class′ q p ≡ leader is q p
   unfolding leader
   leaders q p a b l =
       row q p a b l
       ∙ given .leaders (getD old q 0) p (numbered .keeps .from q a b) (numbered .keeps .to q a b) l
-      ∙ first-cong people _ _ (λ p′ m. ap₂ eqb (sym (row q p′ a b m)) (sym (row q p a b l)))
+      ∙ first-cong (size .people) _ _ (λ p′ m. ap₂ eqb (sym (row q p′ a b m)) (sym (row q p a b l)))
 
-  given-trimmed : Given steps people n rules class′ kind level′ limit scope
-  given-trimmed =
+  ruled : Ruled size′ rule′
+  ruled =
       record {
-        few-steps = given .few-steps;
-        few-people = given .few-people;
-        few-levels = omega (arith, numbered .few, given .few-levels);
-        few-rules = given .few-rules;
-        classes = rows .sized;
-        kinds = given .kinds;
-        rule-levels = renumbered .sized;
-        limits = given .limits;
-        scopes = given .scopes;
-        searchable = searchable;
-        leaders = leaders;
+        few-steps = given .ruled .few-steps;
+        few-levels = omega (arith, numbered .few, given .ruled .few-levels);
+        few-rules = given .ruled .few-rules;
+        sized = renumbered .sized;
+        scopes = λ i l. subst (λ (m : ℕ). m < 2 ^ size .steps) (sym (renumbered .each i l .its-scope)) (given .ruled .scopes i l);
+        rule-ok = λ i l. record {
+          from = new-from i l;
+          to = new-to i l;
+          reachable =
+              let e : count (size .steps) (hasBit (scopeIn (getD rule′ i 0))) ≡ count (size .steps) (hasBit (scopeIn (getD rule i 0)))
+              = ap (λ (m : ℕ). count (size .steps) (hasBit m)) (renumbered .each i l .its-scope)
+              in
+              omega (arith, renumbered .each i l .its-least, ok i l .reachable);
+          bounded = omega (arith, renumbered .each i l .its-most, ok i l .bounded);
+        };
       }
 
-pub trims : (steps people levels rules n marks : ℕ) (class level class′ level′ old new : List ℕ) → Levelled levels rules level → Marks rules level marks
-    → Numbered levels marks n old new → Rows n old class class′ → Renumbered rules level new level′ → Trims steps people levels rules class level n class′ level′
-trims steps people levels rules n marks class level class′ level′ old new a b c d e =
-    record {
-      given = given-trimmed steps people levels rules n marks class level class′ level′ old new a b c d e;
-      valid = valid-trimmed steps people levels rules n marks class level class′ level′ old new a b c d e;
-      first = λ kind limit scope g may.
-          first-same (jobIn steps people levels class rules kind level limit scope) (jobIn steps people n class′ rules kind level′ limit scope) may refl
-          (valid-trimmed steps people levels rules n marks class level class′ level′ old new a b c d e kind limit scope g may);
-    }
+  pub given-trimmed : Given size′ class′ rule′
+  given-trimmed = record { ruled = ruled; few-people = given .few-people; classes = rows .sized; refining = refining; leaders = leaders }
+
+  pub ruled-trimmed : Ruled size′ rule′
+  ruled-trimmed = ruled
+
+  pub trims : {crowd of : List ℕ} → Gathered (size .people) n class′ crowd → Naming (size .rules) rule′ of → Trims size class rule size′ class′ crowd rule′ of
+  trims g w = record { tabled = record { given = given-trimmed; crowds = g; naming = w }; same = renamed-same was is renamed }

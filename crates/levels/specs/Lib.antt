@@ -1,2 +1,2 @@
-pub mod Given
+pub mod Tabled
 pub mod Trims

@@ -1,28 +1,28 @@
 -- Levels that no rule names, left out of the arrays of a job. Assumes nothing.
-use mathlib.Core.Bool.{true}
+use mathlib.Core.Bool.{Bool, true}
 use mathlib.Core.List.{List}
-use mathlib.Core.Logic.{_↔_}
 use mathlib.Core.Path.{_≡_}
-use Prim.Native.Nat.{ℕ, _≤_, _<_}
+use Prim.Native.Nat.{ℕ, suc, _%_, _≤_, _<_}
 use lib.ListN.{length, getD}
 use Rattle.bits.specs.Word.{hasBit}
-use Rattle.workflow.specs.Problem.{May, Plan, Valid}
-use Rattle.workflow.specs.First.{firstPlan}
-use Rattle.pattern.specs.Kept.{Keeps}
+use Rattle.workflow.specs.Same.{SamePlans}
+use Rattle.pattern.specs.declared.Size.{Size}
+use Rattle.pattern.specs.Rule.{levelIn, leastIn, mostIn, scopeIn, Packed}
 use Rattle.pattern.specs.Tables.{classIn, jobIn}
-use Rattle.levels.specs.Given.{Given}
+use Rattle.levels.specs.Tabled.{Tabled}
 
--- what is known of the levels that rules name
-pub record Levelled (levels rules : ℕ) (level : List ℕ) : Type 0 where
-  pub few-levels : levels ≤ 3
-  pub few-rules : rules ≤ 64
-  pub sized : length level ≡ 64
-  pub from : (i : ℕ) → i < rules → 1 ≤ getD level i 0
-  pub to : (i : ℕ) → i < rules → getD level i 0 ≤ levels
+-- of the levels 1 to `levels`, old 1 to old n are kept, in order, and the named ones are among them
+pub record Keeps (levels n : ℕ) (named : ℕ → Bool) (old new : ℕ → ℕ) : Type 0 where
+  pub from : (k : ℕ) → 1 ≤ k → k ≤ n → 1 ≤ old k
+  pub to : (k : ℕ) → 1 ≤ k → k ≤ n → old k ≤ levels
+  pub ordered : (k : ℕ) → 1 ≤ k → k < n → old k < old (suc k)
+  pub back : (q : ℕ) → 1 ≤ q → q ≤ levels → named q ≡ true → old (new q) ≡ q
+  pub new-from : (q : ℕ) → 1 ≤ q → q ≤ levels → named q ≡ true → 1 ≤ new q
+  pub new-to : (q : ℕ) → 1 ≤ q → q ≤ levels → named q ≡ true → new q ≤ n
 
 -- the levels that rules name are in the mask
 abbrev pub Marks : ℕ → List ℕ → ℕ → Type 0
-Marks rules level marks = (i : ℕ) → i < rules → hasBit marks (getD level i 0) ≡ true
+Marks rules rule marks = (i : ℕ) → i < rules → hasBit marks (levelIn (getD rule i 0)) ≡ true
 
 -- the marked levels, kept in order: level k of n is level old k, and a marked level q is level new q
 pub record Numbered (levels marks n : ℕ) (old new : List ℕ) : Type 0 where
@@ -36,15 +36,13 @@ pub record Rows (n : ℕ) (old class class′ : List ℕ) : Type 0 where
   pub sized : length class′ ≡ 192
   pub each : (k p : ℕ) → 1 ≤ k → k ≤ n → p < 64 → classIn class′ k p ≡ classIn class (getD old k 0) p
 
--- the levels of the rules, in the new numbers
-pub record Renumbered (rules : ℕ) (level new level′ : List ℕ) : Type 0 where
-  pub sized : length level′ ≡ 64
-  pub each : (i : ℕ) → i < rules → getD level′ i 0 ≡ getD new (getD level i 0) 0
+-- the first n rules, with their levels in the new numbers
+pub record Renumbered (n : ℕ) (rule new rule′ : List ℕ) : Type 0 where
+  pub sized : length rule′ ≡ 64
+  pub each : (i : ℕ) → i < n
+      → Packed (getD new (levelIn (getD rule i 0)) 0 % 16) (leastIn (getD rule i 0)) (mostIn (getD rule i 0)) (scopeIn (getD rule i 0)) (getD rule′ i 0)
 
--- the arrays with n levels are a job with the same valid plans
-pub record Trims (steps people levels rules : ℕ) (class level : List ℕ) (n : ℕ) (class′ level′ : List ℕ) : Type 0 where
-  pub given : (kind limit scope : List ℕ) → Given steps people levels rules class kind level limit scope → Given steps people n rules class′ kind level′ limit scope
-  pub valid : (kind limit scope : List ℕ) → Given steps people levels rules class kind level limit scope → (may : May) (π : Plan)
-      → Valid (jobIn steps people n class′ rules kind level′ limit scope) may π ↔ Valid (jobIn steps people levels class rules kind level limit scope) may π
-  pub first : (kind limit scope : List ℕ) → Given steps people levels rules class kind level limit scope → (may : May)
-      → firstPlan (jobIn steps people n class′ rules kind level′ limit scope) may ≡ firstPlan (jobIn steps people levels class rules kind level limit scope) may
+-- the new arrays are a job with the same valid plans
+pub record Trims (size : Size) (class rule : List ℕ) (size′ : Size) (class′ crowd′ rule′ of′ : List ℕ) : Type 0 where
+  pub tabled : Tabled size′ class′ crowd′ rule′ of′
+  pub same : SamePlans (jobIn size class rule) (jobIn size′ class′ rule′)

@@ -1,18 +1,17 @@
-// The arrays of a job, and the levels that no rule names left out of them.
+// A job's arrays without the levels that no rule names.
 use bits::small::has;
 use bits::small::with;
+use index::crowds;
+use index::naming;
+use pattern::Size;
+use pattern::rule;
 ghost use mathlib.Core.Path.{_≡_};
 ghost use Prim.Native.Nat.{_≤_};
 ghost use lib.ListN.{length};
-ghost use Rattle.levels.specs.Trims.{Levelled, Marks, Numbered, Rows, Renumbered, Trims};
+ghost use Rattle.pattern.specs.Given.{Ruled, Given};
+ghost use Rattle.levels.specs.Trims.{Marks, Numbered, Rows, Renumbered, Trims};
 
-// How many steps, people, levels and rules a job has.
-pub struct Size {
-    pub steps: usize,
-    pub people: usize,
-    pub levels: usize,
-    pub rules: usize,
-}
+mod index;
 
 // The levels kept: how many, the old number of each, and the new number of each old one.
 pub struct Numbers {
@@ -21,21 +20,24 @@ pub struct Numbers {
     pub new: [u8; 4],
 }
 
-// The number of levels, the classes and the levels of the rules.
+// The arrays of a job: its counts, the class of each person and the people of each class at each level,
+// the rules and those of them that name each step.
 pub struct Tables {
-    pub levels: usize,
+    pub size: Size,
     pub class: [u8; 192],
-    pub level: [u8; 64],
+    pub crowd: [u64; 192],
+    pub rule: [u32; 64],
+    pub of: [u64; 12],
 }
 
 // The levels that rules name.
-fn marks(levels: usize, rules: usize, level: &[u8; 64]) -> u16
-    requires { ⌜ Levelled levels rules (now level) ⌝ }
-    ensures { λ r. ⌜ Marks rules (now (level .entry)) r ⌝ }
+fn marks(rules: usize, rule: &[u32; 64]) -> u16
+    requires { ⌜ (rules ≤ 64) × (length (now rule) ≡ 64) ⌝ }
+    ensures { λ r. ⌜ Marks rules (now (rule .entry)) r ⌝ }
 {
     let mut all: u16 = 0;
     for i in 0..rules {
-        all = with(all, level[i] as usize);
+        all = with(all, rule::level(rule[i]));
     }
     all
 }
@@ -84,33 +86,44 @@ fn rows(
     kept
 }
 
-// The levels of the rules in the new numbers.
-fn renumber(levels: usize, rules: usize, level: &[u8; 64], new: &[u8; 4]) -> [u8; 64]
-    requires { ⌜ Levelled levels rules (now level) × (length (now new) ≡ 4) ⌝ }
-    ensures { λ r. ⌜ Renumbered rules (now (level .entry)) (now (new .entry)) r ⌝ }
+// The rules with their levels in the new numbers.
+fn renumber(size: Size, rule: &[u32; 64], new: &[u8; 4]) -> [u32; 64]
+    requires { ⌜ Ruled size (now rule) × (length (now new) ≡ 4) ⌝ }
+    ensures { λ r. ⌜ Renumbered (size .rules) (now (rule .entry)) (now (new .entry)) r ⌝ }
 {
-    let mut kept = [0u8; 64];
+    let mut kept = [0u32; 64];
+    let rules = size.rules;
     for i in 0..rules {
-        let q = level[i] as usize;
-        kept[i] = new[q];
+        let q = rule::level(rule[i]);
+        kept[i] = rule::moved(rule[i], (new[q] % 16) as usize);
     }
     kept
 }
 
 // The job's arrays without the levels that no rule names.
-pub fn keep(size: Size, class: &[u8; 192], level: &[u8; 64]) -> Tables
-    requires { ⌜ Levelled (size .levels) (size .rules) (now level) × (length (now class) ≡ 192) ⌝ }
-    ensures { λ r. ⌜ Trims (size .steps) (size .people) (size .levels) (size .rules) (now (class .entry)) (now (level .entry)) (r .levels) (r .class) (r .level) ⌝ }
+pub fn keep(size: Size, class: &[u8; 192], rule: &[u32; 64]) -> Tables
+    requires { ⌜ Given size (now class) (now rule) ⌝ }
+    ensures { λ r. ⌜ Trims size (now (class .entry)) (now (rule .entry)) (r .size) (r .class) (r .crowd) (r .rule) (r .of) ⌝ }
 {
-    let marked = marks(size.levels, size.rules, level);
+    let marked = marks(size.rules, rule);
     let numbers = number(size.levels, marked);
     let old = numbers.old;
     let new = numbers.new;
     let kept = rows(size.levels, numbers.count, marked, &old, &new, class);
-    let renumbered = renumber(size.levels, size.rules, level, &new);
-    Tables {
+    let renumbered = renumber(size, rule, &new);
+    let named = Size {
+        steps: size.steps,
+        people: size.people,
         levels: numbers.count,
+        rules: size.rules,
+    };
+    let crowd = crowds(size.people, numbers.count, &kept);
+    let of = naming(named, &renumbered);
+    Tables {
+        size: named,
         class: kept,
-        level: renumbered,
+        crowd: crowd,
+        rule: renumbered,
+        of: of,
     }
 }

@@ -1,5 +1,3 @@
-pub mod Masks
-pub mod Classes
 pub mod Settling
 pub mod Reach
 pub mod Spreading
@@ -7,4 +5,3 @@ pub mod Parting
 pub mod Ruling
 pub mod Restricting
 pub mod Passing
-pub mod Names

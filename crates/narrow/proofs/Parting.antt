@@ -21,7 +21,7 @@ use Rattle.pattern.proofs.Counted.{Adds, distinct-new}
 use Rattle.pattern.specs.Tables.{mayIn}
 use Rattle.narrow.specs.Fixing.{Reaching}
 use Rattle.narrow.specs.Parting.{Apart}
-use Rattle.narrow.proofs.Masks.{or-cases, or-left, or-right, bits-below, ones-count}
+use Rattle.bits.proofs.Masks.{or-cases, or-left, or-right, bits-below, ones-count}
 use Rattle.narrow.proofs.Settling.{bound-of}
 
 module _ (people : ℕ) (c : ℕ → ℕ) (steps used : ℕ) (dom : List ℕ) where

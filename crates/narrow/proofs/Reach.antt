@@ -14,47 +14,46 @@ use Rattle.bits.proofs.Below.{by-cases, true-false}
 use Rattle.bits.proofs.Counting.{and-of, is-false}
 use Rattle.bits.proofs.SetLaws.{and-bit, or-bit, empty-lacks, removed-lacks, removed-other, removed-was}
 use Rattle.pattern.specs.Tables.{classIn}
-use Rattle.narrow.specs.Domains.{Mated}
+use Rattle.narrow.specs.Domains.{Crowd}
 use Rattle.narrow.specs.Fixing.{Reaching}
 use Rattle.narrow.specs.Narrowing.{Common}
-use Rattle.narrow.proofs.Masks.{xor-all, all-has, or-left, or-right}
-use Rattle.narrow.proofs.Settling.{mates-crowd}
+use Rattle.bits.proofs.Masks.{xor-all, all-has, or-left, or-right}
 
-module _ (people levels : ℕ) (mates : List ℕ) (level domain : ℕ) where
-  pub reaching-none : Reaching people (classIn mates level) domain domain 0
+module _ (people : ℕ) (c mask : ℕ → ℕ) (domain : ℕ) where
+  pub reaching-none : Reaching people c domain domain 0
   reaching-none p p′ l m h k e = true-false h k
 
-  module _ (few : people ≤ 64) (mated : Mated people levels mates) (from : 1 ≤ level) (to : level ≤ levels)
+  module _ (few : people ≤ 64) (each : (p : ℕ) → p < people → Crowd people c p (mask p))
       (left p rest : ℕ) (low : Lowest left p) (gone : Removed left p rest) where
     -- somebody who is no longer left is of the class of p
     pub of-crowd : (u : ℕ) → u < people → hasBit left u ≡ true
-        → hasBit (bitAnd rest (bitXor (classIn mates level p) 18446744073709551615)) u ≡ false → (p < people) × (classIn mates level u ≡ classIn mates level p)
+        → hasBit (bitAnd rest (bitXor (mask p) 18446744073709551615)) u ≡ false → (p < people) × (c u ≡ c p)
     of-crowd u l h k =
         by-cases (ltb p people)
         (λ t.
         let b : p < people = ltb-true p people t in
         by-cases (eqb u p)
-        (λ x. (b, ap (classIn mates level) (eqb-true u p x)))
-        (λ x. by-cases (hasBit (classIn mates level p) u)
-        (λ y. (b, mates-crowd people levels mates level p mated from to b .only u y .1))
+        (λ x. (b, ap c (eqb-true u p x)))
+        (λ x. by-cases (hasBit (mask p) u)
+        (λ y. (b, each p b .only u y .1))
         (λ y. true-false
-        (and-bit rest (bitXor (classIn mates level p) 18446744073709551615) u
-        ∙ and-of (hasBit rest u) _ (removed-other gone u (eqb-false u p x) ∙ h) (xor-all (classIn mates level p) u (omega arith) ∙ ap not y))
+        (and-bit rest (bitXor (mask p) 18446744073709551615) u
+        ∙ and-of (hasBit rest u) _ (removed-other gone u (eqb-false u p x) ∙ h) (xor-all (mask p) u (omega arith) ∙ ap not y))
         k)))
         (λ t. true-false h (low .before u (let z : people ≤ p = ltb-false p people t in omega arith)))
 
-    pub reaching-more : (found : ℕ) → Reaching people (classIn mates level) domain left found
-        → Reaching people (classIn mates level) domain (bitAnd rest (bitXor (classIn mates level p) 18446744073709551615))
-        (bitOr found (classIn mates level p))
+    pub reaching-more : (found : ℕ) → Reaching people c domain left found
+        → Reaching people c domain (bitAnd rest (bitXor (mask p) 18446744073709551615))
+        (bitOr found (mask p))
     reaching-more found w u v l m h k e =
-        or-bit found (classIn mates level p) v
+        or-bit found (mask p) v
         ∙ by-cases (hasBit left u)
         (λ t. let o = of-crowd u l t k in
-        or-right (hasBit found v) _ (mates-crowd people levels mates level p mated from to (o .0) .has v m (sym e ∙ o .1)))
+        or-right (hasBit found v) _ (each p (o .0) .has v m (sym e ∙ o .1)))
         (λ t. or-left (hasBit found v) _ (w u v l m h t e))
 
-  pub reaching-all : (left found : ℕ) → left ≡ 0 → Reaching people (classIn mates level) domain left found → Reaching people (classIn mates level) domain 0 found
-  reaching-all left found z w = subst (λ (x : ℕ). Reaching people (classIn mates level) domain x found) z w
+  pub reaching-all : (left found : ℕ) → left ≡ 0 → Reaching people c domain left found → Reaching people c domain 0 found
+  reaching-all left found z w = subst (λ (x : ℕ). Reaching people c domain x found) z w
 
 module _ (people : ℕ) (c : ℕ → ℕ) (steps : ℕ) (dom : List ℕ) where
   -- the steps left are of the steps, and the others are done

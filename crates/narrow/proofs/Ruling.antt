@@ -3,6 +3,7 @@
 -- end only people of their classes and of those that are had. Assumes nothing.
 use mathlib.Core.Bool.{Bool, true, false, not, _&&_, _||_, or-false, and-true}
 use mathlib.Core.List.{List}
+use mathlib.Core.Logic.{inl, inr}
 use mathlib.Core.Path.{_≡_, refl, sym, subst, ap, _∙_}
 use Prim.Native.Nat.{ℕ, suc, _+_, _^_, _≤_, _<_}
 use native.Mathlib.Omega.{arith}
@@ -15,18 +16,18 @@ use Rattle.bits.specs.Word.{hasBit}
 use Rattle.bits.proofs.Below.{by-cases, true-false, and-right}
 use Rattle.bits.proofs.Counting.{and-of, is-false, count-le, count-insert}
 use Rattle.bits.proofs.SetLaws.{empty-lacks}
-use Rattle.workflow.specs.Problem.{Rule, Job, Plan, Met, RuleOk, classCount, distinct, Pair}
-use Rattle.workflow.specs.Interval.{lowest, highest}
+use Rattle.workflow.specs.Problem.{Rule, Job, Plan, Met, classCount, distinct, Pair}
 use Rattle.workflow.proofs.Occurs.{distinct-scope-mono, distinct-scope-split}
-use Rattle.workflow.proofs.Rules.{met-interval, distinct-of-pair}
+use Rattle.workflow.proofs.Rules.{distinct-of-pair}
+use Rattle.pattern.specs.Rule.{levelIn, leastIn, mostIn, unpacked}
 use Rattle.pattern.proofs.Counted.{Adds, distinct-joins, distinct-new}
 use Rattle.pattern.proofs.Same.{distinct-scope-cong}
 use Rattle.narrow.specs.Domains.{Takes, Revised}
 use Rattle.narrow.specs.Fixing.{settled, Fixing}
-use Rattle.narrow.specs.Narrowing.{Joins, Common, Spared, Restricted}
+use Rattle.narrow.specs.Narrowing.{Joins, Common, Spared, Restricted, Allowed}
 use Rattle.narrow.specs.Parting.{Apart, Limited}
 use Rattle.narrow.specs.Spreading.{Spread, Short}
-use Rattle.narrow.proofs.Masks.{or-cases, or-left, or-right, bits-below, ones-count}
+use Rattle.bits.proofs.Masks.{or-cases, or-left, or-right, bits-below, ones-count}
 use Rattle.narrow.proofs.Settling.{settled-of, settled-scope, settled-narrow, bound-of}
 use Rattle.narrow.proofs.Spreading.{count-spread}
 use Rattle.narrow.proofs.Parting.{classes-from}
@@ -181,7 +182,6 @@ module _ (steps people : ℕ) (c : ℕ → ℕ) (scope : ℕ) (dom : List ℕ) (
 
 -- a rule of a job, and what the domains settle of its count
 pub record Settled (j : Job) (r : Rule) (scope : ℕ) (dom : List ℕ) (used heads wide : ℕ) : Type 0 where
-  pub ok : RuleOk (j .steps) (j .levels) r
   pub small : j .steps ≤ 12
   pub same : (s : ℕ) → r .scope s ≡ hasBit scope s
   pub sized : length dom ≡ 12
@@ -221,11 +221,11 @@ module _ {j : Job} {r : Rule} {scope : ℕ} {dom : List ℕ} {used heads wide : 
     counted : classCount j r π ≡ distinct (j .steps) (hasBit scope) (λ u. j .class (r .level) (π u))
     counted = distinct-scope-cong (j .steps) (r .scope) (hasBit scope) (λ u. j .class (r .level) (π u)) (λ u l. w .same u)
 
-    from-least : lowest (r .kind) (r .limit) ≤ distinct (j .steps) (hasBit scope) (λ u. j .class (r .level) (π u))
-    from-least = omega (arith, counted, met-interval j r (w .ok) π .0 met .least)
+    from-least : r .least ≤ distinct (j .steps) (hasBit scope) (λ u. j .class (r .level) (π u))
+    from-least = omega (arith, counted, met .least)
 
-    to-most : distinct (j .steps) (hasBit scope) (λ u. j .class (r .level) (π u)) ≤ highest (r .kind) (r .limit) (j .steps)
-    to-most = omega (arith, counted, met-interval j r (w .ok) π .0 met .most)
+    to-most : distinct (j .steps) (hasBit scope) (λ u. j .class (r .level) (π u)) ≤ r .most
+    to-most = omega (arith, counted, met .most)
 
     from-heads : ones heads ≤ distinct (j .steps) (hasBit scope) (λ u. j .class (r .level) (π u))
     from-heads = omega (arith, heads-count, count-from (j .steps) (j .people) (j .class (r .level)) scope dom used heads wide f π takes)
@@ -238,11 +238,11 @@ module _ {j : Job} {r : Rule} {scope : ℕ} {dom : List ℕ} {used heads wide : 
     to-spread number s =
         omega (arith, heads-count, count-spread (j .steps) (j .people) (j .class (r .level)) scope dom used heads wide number f s π takes)
 
-    at-most : (t : ℕ) → hasBit wide t ≡ true → ones heads ≡ highest (r .kind) (r .limit) (j .steps) → hasBit used (π t) ≡ true
+    at-most : (t : ℕ) → hasBit wide t ≡ true → ones heads ≡ r .most → hasBit used (π t) ≡ true
     at-most t h e =
         joins-used (j .steps) (j .people) (j .class (r .level)) scope dom used heads wide f π takes t h (omega (arith, heads-count, to-most))
 
-    at-least : (t : ℕ) → hasBit wide t ≡ true → ones heads + ones wide ≡ lowest (r .kind) (r .limit) → hasBit used (π t) ≡ false
+    at-least : (t : ℕ) → hasBit wide t ≡ true → ones heads + ones wide ≡ r .least → hasBit used (π t) ≡ false
     at-least t h e =
         avoids-used (j .steps) (j .people) (j .class (r .level)) scope dom used heads wide f π takes t h (omega (arith, heads-count, wide-count, from-least))
 
@@ -252,13 +252,13 @@ module _ {j : Job} {r : Rule} {scope : ℕ} {dom : List ℕ} {used heads wide : 
           omega
           (arith, heads-count, parts-count all parts a, count-apart (j .steps) (j .people) (j .class (r .level)) scope dom used heads wide f π takes all parts a)
 
-      at-limit : (t : ℕ) → hasBit wide t ≡ true → ones heads + ones parts ≡ highest (r .kind) (r .limit) (j .steps) → hasBit all (π t) ≡ true
+      at-limit : (t : ℕ) → hasBit wide t ≡ true → ones heads + ones parts ≡ r .most → hasBit all (π t) ≡ true
       at-limit t h e =
           joins-all (j .steps) (j .people) (j .class (r .level)) scope dom used heads wide f π takes all parts a t h
           (omega (arith, heads-count, parts-count all parts a, to-most))
 
     -- with one class, somebody of each open step is of the class of t
-    at-one : (t : ℕ) → hasBit wide t ≡ true → highest (r .kind) (r .limit) (j .steps) ≡ 1
+    at-one : (t : ℕ) → hasBit wide t ≡ true → r .most ≡ 1
         → (s : ℕ) → hasBit wide s ≡ true → Joins (j .people) (j .class (r .level)) dom s (π t)
     at-one t h e s k =
         let a = f .part s k in
@@ -273,13 +273,13 @@ module _ {j : Job} {r : Rule} {scope : ℕ} {dom : List ℕ} {used heads wide : 
   hopeless : ((π : Plan) → Met j r π → Takes (j .steps) (j .people) dom π → ⊥) → Revised j r dom dom true
   hopeless no-plan = record { fewer = fewer-same dom (w .sized); kept = λ t. true-false refl t; lost = λ t. no-plan }
 
-  pub too-many : (most : ℕ) → most ≡ highest (r .kind) (r .limit) (j .steps) → most < ones heads → Revised j r dom dom true × (0 < 4096)
+  pub too-many : (most : ℕ) → most ≡ r .most → most < ones heads → Revised j r dom dom true × (0 < 4096)
   too-many most e l = (hopeless (λ π met takes. omega (arith, from-heads π met takes, to-most π met takes)), omega arith)
 
-  pub too-few : (least : ℕ) → least ≡ lowest (r .kind) (r .limit) → ones heads + ones wide < least → Revised j r dom dom true × (0 < 4096)
+  pub too-few : (least : ℕ) → least ≡ r .least → ones heads + ones wide < least → Revised j r dom dom true × (0 < 4096)
   too-few least e l = (hopeless (λ π met takes. omega (arith, to-wide π met takes, from-least π met takes)), omega arith)
 
-  pub too-short : (least : ℕ) → least ≡ lowest (r .kind) (r .limit) → Short (j .people) (j .class (r .level)) wide used dom (ones heads) least
+  pub too-short : (least : ℕ) → least ≡ r .least → Short (j .people) (j .class (r .level)) wide used dom (ones heads) least
       → Revised j r dom dom true × (0 < 4096)
   too-short least e s = (hopeless (λ π met takes. omega (arith, s .less, to-spread π met takes (s .number) (s .spread), from-least π met takes)), omega arith)
 
@@ -302,13 +302,13 @@ module _ {j : Job} {r : Rule} {scope : ℕ} {dom : List ℕ} {used heads wide : 
       bits-below 12 changed (λ s h. omega (arith, w .small, wide-below s (cut .done .among s h))),
     )
 
-    pub with-common : (most : ℕ) → most ≡ highest (r .kind) (r .limit) (j .steps) → most ≡ 1 → Common (j .people) (j .class (r .level)) wide dom 0 crew
+    pub with-common : (most : ℕ) → most ≡ r .most → most ≡ 1 → Common (j .people) (j .class (r .level)) wide dom 0 crew
         → Revised j r dom dom′ failed × (changed < 4096)
     with-common most e one common =
         by-people
         (λ π met takes t h. common (π t) (takes .within t (wide-below t h)) (λ s k _. at-one π met takes t h (omega arith) s k))
 
-    pub with-upper : (most : ℕ) → most ≡ highest (r .kind) (r .limit) (j .steps) → j .people ≤ 64
+    pub with-upper : (most : ℕ) → most ≡ r .most → j .people ≤ 64
         → Limited (j .people) (j .class (r .level)) wide used dom (ones heads) most crew → Revised j r dom dom′ failed × (changed < 4096)
     with-upper most e few l =
         by-people
@@ -316,9 +316,17 @@ module _ {j : Job} {r : Rule} {scope : ℕ} {dom : List ℕ} {used heads wide : 
         (omega (arith, from-apart π met takes (l .all) (l .heads) (l .apart), to-most π met takes))
         (λ x. at-limit π met takes (l .all) (l .heads) (l .apart) t h (x ∙ e)))
 
-    pub with-left : (least most : ℕ) → least ≡ lowest (r .kind) (r .limit) → most ≡ highest (r .kind) (r .limit) (j .steps) → j .people ≤ 64
+    pub with-left : (least most : ℕ) → least ≡ r .least → most ≡ r .most → j .people ≤ 64
         → Spared used (ones heads) (ones wide) least most crew → Revised j r dom dom′ failed × (changed < 4096)
     with-left least most d e few spared =
         by-people
         (λ π met takes t h. spared (π t) (omega (arith, takes .within t (wide-below t h)))
         (λ x. at-most π met takes t h (x ∙ e)) (λ x. at-least π met takes t h (x ∙ d)))
+
+-- by whichever of the three it is
+pub with-allowed : {j : Job} (rule : ℕ) {scope : ℕ} {dom : List ℕ} {used heads wide : ℕ} (w : Settled j (unpacked rule) scope dom used heads wide) {crew : ℕ} {dom′ : List ℕ}
+    {failed : Bool} {changed : ℕ} → Restricted wide crew dom dom′ failed changed → j .people ≤ 64
+    → Allowed (j .people) (j .class (levelIn rule)) rule wide used dom (ones heads) (ones wide) crew → Revised j (unpacked rule) dom dom′ failed × (changed < 4096)
+with-allowed {j} rule w cut few (inl one) = with-common w cut (mostIn rule) refl (one .0) (one .1)
+with-allowed {j} rule w cut few (inr (inl limited)) = with-upper w cut (mostIn rule) refl few limited
+with-allowed {j} rule w cut few (inr (inr spared)) = with-left w cut (leastIn rule) (mostIn rule) refl refl few spared

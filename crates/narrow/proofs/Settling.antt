@@ -3,9 +3,9 @@
 use mathlib.Core.Bool.{Bool, true, false, not, _&&_}
 use mathlib.Core.List.{List}
 use mathlib.Core.Path.{_≡_, refl, sym, subst, ap, _∙_}
-use Prim.Native.Nat.{ℕ, zero, suc, _+_, _*_, _%_, _^_, _≤_, _<_}
+use Prim.Native.Nat.{ℕ, zero, suc, _+_, _*_, _-_, _%_, _^_, _≤_, _<_}
 use native.Mathlib.Omega.{arith}
-use native.Mathlib.Nat.{not-suc-le-zero}
+use native.Mathlib.Nat.{not-suc-le-zero, mod-eq-of-lt}
 use lib.Bits.{bitAnd, bitOr}
 use lib.Dec.{eqb, ltb}
 use lib.ListN.{getD}
@@ -15,28 +15,47 @@ use Rattle.bits.specs.Word.{hasBit}
 use Rattle.bits.specs.Set.{Added, Removed, Lowest}
 use Rattle.bits.proofs.Below.{by-cases, true-false, below-suc, and-left, and-right}
 use Rattle.bits.proofs.Counting.{and-of, is-false, bool-ext, count-none, count-insert}
-use Rattle.bits.proofs.SetLaws.{and-bit-left, and-bit-right, or-bit, empty-lacks, mod-bit, and-apart, added-has, added-other, removed-lacks, removed-other, removed-was, removed-differs}
+use Rattle.bits.proofs.SetLaws.{and-bit-left, and-bit-right, or-bit, empty-lacks, has-below, and-apart, added-has, added-other, removed-lacks, removed-other, removed-was, removed-differs}
 use Rattle.workflow.specs.Problem.{Plan, distinct}
 use Rattle.workflow.proofs.Counts.{distinct-le-scope}
 use Rattle.pattern.proofs.Counted.{Adds, distinct-joins, distinct-new}
 use Rattle.pattern.proofs.Same.{distinct-scope-cong}
-use Rattle.pattern.specs.Tables.{classIn}
-use Rattle.eligible.proofs.Open.{span}
-use Rattle.narrow.specs.Domains.{Mated, Takes}
-use Rattle.narrow.specs.Fixing.{Crowd, Shared, settled, Fixing}
-use Rattle.narrow.proofs.Masks.{or-cases, or-left, or-right, some-bit}
+use Rattle.pattern.specs.Tables.{classIn, jobIn}
+use Rattle.pattern.specs.declared.Size.{Size}
+use Rattle.pattern.specs.Given.{Given}
+use Rattle.pattern.specs.Realize.{leader}
+use Rattle.pattern.proofs.Leader.{leader-below}
+use Rattle.levels.specs.Tabled.{Gathered}
+use Rattle.narrow.specs.Domains.{Takes, Crowd, AtLevel}
+use Rattle.narrow.specs.Fixing.{Shared, settled, Fixing}
+use Rattle.bits.proofs.Masks.{or-cases, or-left, or-right, some-bit}
 
 -- ---- the class that a domain shares
 
-pub mates-crowd : (people levels : ℕ) (mates : List ℕ) (level p : ℕ) → Mated people levels mates → 1 ≤ level → level ≤ levels → p < people
-    → Crowd people (classIn mates level) p (classIn mates level p)
-mates-crowd people levels mates level p m a b l =
+-- the classes of a level, as the table of their people has them
+pub at-level : {size : Size} {class crowd rule : List ℕ} → Given size class rule → Gathered (size .people) (size .levels) class crowd
+    → (level : ℕ) → 1 ≤ level → level ≤ size .levels → AtLevel (size .people) class crowd level
+at-level {size} {class} {crowd} {rule} given gathered level from to =
     record {
-      has = λ p′ k e. m .each level p p′ a b l k ∙ eq-eqb _ _ e;
-      only = λ p′ h.
-          let k = m .within level p p′ a b l h in
-          (k, eqb-true _ _ (sym (m .each level p p′ a b l k) ∙ h));
+      few-people = given .few-people;
+      classes = given .classes;
+      crowds = gathered .sized;
+      from = from;
+      to = omega (arith, given .ruled .few-levels);
+      each = λ p l. record {
+        has = λ p′ m e. gathered .has (level - 1) p p′ (omega arith) l m (ap (λ (v : ℕ). v % 64) e);
+        only = λ p′ h.
+            let o = gathered .only (level - 1) p p′ (omega arith) l h in
+            (o .0, sym (mod-eq-of-lt (small p′ (o .0))) ∙ o .1 ∙ mod-eq-of-lt (small p l));
+      };
     }
+  where
+    -- a class is named by one of the people
+    small : (p : ℕ) → p < size .people → classIn class level p < 64
+    small p l =
+        let e : classIn class level p ≡ leader (jobIn size class rule) level p = given .leaders level p from to l in
+        let f : leader (jobIn size class rule) level p < size .people = leader-below (jobIn size class rule) level p l in
+        omega (arith, given .few-people)
 
 pub crowd-cong : (people : ℕ) (c : ℕ → ℕ) (p q r : ℕ) → c p ≡ c q → Crowd people c p r → Crowd people c q r
 crowd-cong people c p q r e w =
@@ -46,15 +65,15 @@ crowd-cong people c p q r e w =
     }
 
 -- the lowest of the domain shares its class with all
-pub shared-all : (people levels : ℕ) (mates : List ℕ) (level domain low : ℕ) → Mated people levels mates → 1 ≤ level → level ≤ levels → Lowest domain low
-    → bitAnd domain (classIn mates level low) ≡ domain → Shared people (classIn mates level) domain (classIn mates level low)
-shared-all people levels mates level domain low m a b lowest e some p l h =
+pub shared-all : (people : ℕ) (c mask : ℕ → ℕ) (domain low : ℕ) → ((p : ℕ) → p < people → Crowd people c p (mask p)) → Lowest domain low
+    → bitAnd domain (mask low) ≡ domain → Shared people c domain (mask low)
+shared-all people c mask domain low each lowest e some p l h =
     by-cases (ltb low people)
     (λ t.
     let k : low < people = ltb-true low people t in
-    let w = mates-crowd people levels mates level low m a b k in
-    let o = w .only p (and-bit-right domain (classIn mates level low) p (ap (λ (x : ℕ). hasBit x p) e ∙ h)) in
-    crowd-cong people (classIn mates level) low p (classIn mates level low) (sym (o .1)) w)
+    let w = each low k in
+    let o = w .only p (and-bit-right domain (mask low) p (ap (λ (x : ℕ). hasBit x p) e ∙ h)) in
+    crowd-cong people c low p (mask low) (sym (o .1)) w)
     (λ t. true-false h (lowest .before p (let z : people ≤ low = ltb-false low people t in omega arith)))
 
 -- ---- the settled steps
@@ -88,18 +107,13 @@ pub record Settling (steps people : ℕ) (c : ℕ → ℕ) (scope : ℕ) (dom : 
   pub fresh : (s : ℕ) → hasBit left s ≡ true → hasBit heads s ≡ false
 
 module _ (steps people : ℕ) (c : ℕ → ℕ) (scope : ℕ) (dom : List ℕ) where
-  pub settling-none : steps ≤ 12 → Settling steps people c scope dom (scope % (1 * 2 ^ steps % 65536)) 0 0 0
-  settling-none few = rw (span steps few) start
+  pub settling-none : scope < 2 ^ steps → Settling steps people c scope dom scope 0 0 0
+  settling-none small = start
     where
-      bits : (s : ℕ) → hasBit (scope % 2 ^ steps) s ≡ ltb s steps && hasBit scope s
-      bits s = mod-bit steps scope s
+      unsettled : (s : ℕ) → s < steps → settled scope 0 scope s ≡ true → ⊥
+      unsettled s l h = true-false (settled-scope scope 0 scope s h) (settled-passed scope 0 scope s h)
 
-      unsettled : (s : ℕ) → s < steps → settled scope 0 (scope % 2 ^ steps) s ≡ true → ⊥
-      unsettled s l h =
-          true-false (bits s ∙ and-of (ltb s steps) (hasBit scope s) (lt-ltb s steps l) (settled-scope scope 0 (scope % 2 ^ steps) s h))
-          (settled-passed scope 0 (scope % 2 ^ steps) s h)
-
-      start : Settling steps people c scope dom (scope % 2 ^ steps) 0 0 0
+      start : Settling steps people c scope dom scope 0 0 0
       start =
           record {
             fixing = record {
@@ -107,18 +121,15 @@ module _ (steps people : ℕ) (c : ℕ → ℕ) (scope : ℕ) (dom : List ℕ) w
               part = λ s h. true-false h (empty-lacks s);
               number = λ π t.
                   count-none steps (hasBit 0) (λ s l. empty-lacks s)
-                  ∙ (let a : distinct steps (settled scope 0 (scope % 2 ^ steps)) (λ s. c (π s)) ≤ count steps (settled scope 0 (scope % 2 ^ steps))
-                  = distinct-le-scope steps (settled scope 0 (scope % 2 ^ steps)) (λ s. c (π s)) in
-                  let b : count steps (settled scope 0 (scope % 2 ^ steps)) ≡ 0
-                  = count-none steps (settled scope 0 (scope % 2 ^ steps)) (λ s l. is-false _ (unsettled s l)) in
+                  ∙ (let a : distinct steps (settled scope 0 scope) (λ s. c (π s)) ≤ count steps (settled scope 0 scope)
+                  = distinct-le-scope steps (settled scope 0 scope) (λ s. c (π s)) in
+                  let b : count steps (settled scope 0 scope) ≡ 0
+                  = count-none steps (settled scope 0 scope) (λ s l. is-false _ (unsettled s l)) in
                   omega arith);
               people-of = λ π t p l h. true-false h (empty-lacks p);
               classes-of = λ π t p s l m h e. absurd (unsettled s m h);
             };
-            rest = λ s h. (
-              ltb-true s steps (and-left (ltb s steps) (hasBit scope s) (sym (bits s) ∙ h)),
-              and-right (ltb s steps) (hasBit scope s) (sym (bits s) ∙ h),
-            );
+            rest = λ s h. (has-below steps scope s small h, h);
             fresh = λ s h. empty-lacks s;
           }
 

@@ -21,10 +21,10 @@ use Rattle.workflow.specs.Problem.{Plan, distinct}
 use Rattle.workflow.proofs.Counts.{distinct-le-scope}
 use Rattle.workflow.proofs.Occurs.{occurs, occurs-of, occurs-at, distinct-occurs}
 use Rattle.pattern.specs.Tables.{classIn, mayIn}
-use Rattle.narrow.specs.Domains.{Mated, Takes}
+use Rattle.narrow.specs.Domains.{Takes, Crowd}
 use Rattle.narrow.specs.Fixing.{settled, Fixing}
 use Rattle.narrow.specs.Spreading.{Anybody, Firsts, Spread}
-use Rattle.narrow.proofs.Masks.{xor-all, bits-below, or-left, or-right}
+use Rattle.bits.proofs.Masks.{xor-all, bits-below, or-left, or-right}
 use Rattle.narrow.proofs.Reach.{of-crowd}
 use Rattle.narrow.proofs.Settling.{settled-of, bound-of}
 
@@ -55,14 +55,14 @@ module _ (steps : ℕ) (dom : List ℕ) where
 
 -- ---- one person for each class
 
-module _ (people levels : ℕ) (mates : List ℕ) (level domain : ℕ) where
-  pub firsts-none : Firsts people (classIn mates level) domain domain 0
+module _ (people : ℕ) (c mask : ℕ → ℕ) (domain : ℕ) where
+  pub firsts-none : Firsts people c domain domain 0
   firsts-none = record { few = λ p h. true-false h (empty-lacks p); each = λ p l h k. true-false h k }
 
-  pub firsts-more : people ≤ 64 → Mated people levels mates → 1 ≤ level → level ≤ levels → (left p rest found found′ : ℕ)
-      → Firsts people (classIn mates level) domain left found → p < 64 → Lowest left p → Removed left p rest → Added found p found′
-      → Firsts people (classIn mates level) domain (bitAnd rest (bitXor (classIn mates level p) 18446744073709551615)) found′
-  firsts-more few mated from to left p rest found found′ w b low gone more =
+  pub firsts-more : people ≤ 64 → ((p : ℕ) → p < people → Crowd people c p (mask p)) → (left p rest found found′ : ℕ)
+      → Firsts people c domain left found → p < 64 → Lowest left p → Removed left p rest → Added found p found′
+      → Firsts people c domain (bitAnd rest (bitXor (mask p) 18446744073709551615)) found′
+  firsts-more few crowded left p rest found found′ w b low gone more =
       record {
         few = λ u h.
             by-cases (eqb u p)
@@ -70,12 +70,12 @@ module _ (people levels : ℕ) (mates : List ℕ) (level domain : ℕ) where
             (λ x. w .few u (sym (added-other more u (eqb-false u p x)) ∙ h));
         each = λ u l h k.
             by-cases (hasBit left u)
-            (λ t. let o = of-crowd people levels mates level domain few mated from to left p rest low gone u l t k in (p, b, added-has more, sym (o .1)))
+            (λ t. let o = of-crowd people c mask domain few crowded left p rest low gone u l t k in (p, b, added-has more, sym (o .1)))
             (λ t. let o = w .each u l h t in (o .0, o .1, added-keeps more (o .0) (o .2), o .3));
       }
 
-  pub firsts-all : (left found : ℕ) → left ≡ 0 → Firsts people (classIn mates level) domain left found → Firsts people (classIn mates level) domain 0 found
-  firsts-all left found z w = subst (λ (x : ℕ). Firsts people (classIn mates level) domain x found) z w
+  pub firsts-all : (left found : ℕ) → left ≡ 0 → Firsts people c domain left found → Firsts people c domain 0 found
+  firsts-all left found z w = subst (λ (x : ℕ). Firsts people c domain x found) z w
 
 -- ---- their number
 

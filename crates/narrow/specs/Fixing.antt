@@ -6,12 +6,7 @@ use Prim.Native.Nat.{ℕ, _<_}
 use Rattle.bits.specs.Below.{count}
 use Rattle.bits.specs.Word.{hasBit}
 use Rattle.workflow.specs.Problem.{Plan, distinct}
-use Rattle.narrow.specs.Domains.{Takes}
-
--- r has exactly the people of the class of p
-pub record Crowd (people : ℕ) (c : ℕ → ℕ) (p r : ℕ) : Type 0 where
-  pub has : (p′ : ℕ) → p′ < people → c p′ ≡ c p → hasBit r p′ ≡ true
-  pub only : (p′ : ℕ) → hasBit r p′ ≡ true → (p′ < people) × (c p′ ≡ c p)
+use Rattle.narrow.specs.Domains.{Takes, Crowd}
 
 -- the people of the one class that all of a domain are in; or nobody, and nothing is said
 abbrev pub Shared : ℕ → (ℕ → ℕ) → ℕ → ℕ → Type 0

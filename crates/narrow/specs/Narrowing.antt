@@ -1,11 +1,16 @@
 -- How the open steps of a rule are left fewer people. Assumes nothing.
 use mathlib.Core.Bool.{Bool, true, false}
 use mathlib.Core.List.{List}
+use mathlib.Core.Logic.{_⊎_}
 use mathlib.Core.Path.{_≡_}
-use Prim.Native.Nat.{ℕ, _+_, _<_}
+use Prim.Native.Nat.{ℕ, _+_, _≤_, _<_}
+use lib.Count.{ones}
+use lib.ListN.{length}
 use Rattle.bits.specs.Word.{hasBit}
+use Rattle.pattern.specs.Rule.{levelIn, leastIn, mostIn}
 use Rattle.pattern.specs.Tables.{mayIn}
-use Rattle.narrow.specs.Domains.{Fewer}
+use Rattle.narrow.specs.Domains.{Fewer, AtLevel}
+use Rattle.narrow.specs.Parting.{Limited}
 
 -- p shares a class with somebody of the domain of s
 abbrev pub Joins : ℕ → (ℕ → ℕ) → List ℕ → ℕ → ℕ → Type 0
@@ -32,3 +37,18 @@ pub record Restricting (steps people : ℕ) (dom dom′ : List ℕ) (left change
 pub record Restricted (steps people : ℕ) (dom dom′ : List ℕ) (failed : Bool) (changed : ℕ) : Type 0 where
   pub done : Restricting steps people dom dom′ 0 changed
   pub lost : failed ≡ true → (s : ℕ) × (hasBit steps s ≡ true) × ((p : ℕ) → mayIn dom s p ≡ true → hasBit people p ≡ true → ⊥)
+
+-- a rule and its steps: those of heads have a class each, those of wide are open
+pub record Open (people : ℕ) (class crowd : List ℕ) (r heads wide : ℕ) (dom : List ℕ) : Type 0 where
+  pub at : AtLevel people class crowd (levelIn r)
+  pub heads-few : ones heads ≤ 12
+  pub wide-few : ones wide ≤ 12
+  pub wide-small : wide < 4096
+  pub sized : length dom ≡ 12
+
+-- r has everybody whom a rule leaves to its open steps: those who can share the one class, those whom the upper limit leaves, or those of
+-- whom its two ends ask no more
+abbrev pub Allowed : ℕ → (ℕ → ℕ) → ℕ → ℕ → ℕ → List ℕ → ℕ → ℕ → ℕ → Type 0
+Allowed people c rule steps used dom groups wide r =
+    ((mostIn rule ≡ 1) × Common people c steps dom 0 r)
+    ⊎ (Limited people c steps used dom groups (mostIn rule) r ⊎ Spared used groups wide (leastIn rule) (mostIn rule) r)

@@ -1,11 +1,12 @@
 // Open steps of a rule that cannot share a class.
+use super::mates::mates;
 use bits::set;
 use bits::small;
 ghost use mathlib.Core.Path.{_≡_};
 ghost use Prim.Native.Nat.{_<_, _≤_};
 ghost use lib.ListN.{length};
 ghost use Rattle.pattern.specs.Tables.{classIn};
-ghost use Rattle.narrow.specs.Domains.{Mated};
+ghost use Rattle.narrow.specs.Domains.{AtLevel};
 ghost use Rattle.narrow.specs.Fixing.{Reaching};
 ghost use Rattle.narrow.specs.Parting.{Apart};
 
@@ -20,17 +21,17 @@ pub struct Parts {
 }
 
 // Everybody who shares a class with somebody of a domain.
-pub fn reach(people: usize, levels: usize, mates: &[u64; 192], level: usize, domain: u64) -> u64
-    requires { ⌜ (people ≤ 64) × (levels ≤ 3) × Mated people levels (now mates) × (1 ≤ level) × (level ≤ levels) ⌝ }
-    ensures { λ r. ⌜ Reaching people (classIn (now (mates .entry)) level) domain 0 r ⌝ }
+pub fn reach(people: usize, class: &[u8; 192], crowd: &[u64; 192], level: usize, domain: u64) -> u64
+    requires { ⌜ AtLevel people (now class) (now crowd) level ⌝ }
+    ensures { λ r. ⌜ Reaching people (classIn (now (class .entry)) level) domain 0 r ⌝ }
 {
     let mut found: u64 = 0;
     let mut left = domain;
     while left != 0 {
         let p = set::lowest(left);
-        let crowd = mates[(level - 1) * 64 + p];
-        found = found | crowd;
-        left = set::without(left, p) & (crowd ^ ALL);
+        let mask = mates(crowd, level, p);
+        found = found | mask;
+        left = set::without(left, p) & (mask ^ ALL);
     }
     found
 }
@@ -38,15 +39,15 @@ pub fn reach(people: usize, levels: usize, mates: &[u64; 192], level: usize, dom
 // Such steps of these, each taken where it is apart from those before it.
 pub fn apart(
     people: usize,
-    levels: usize,
-    mates: &[u64; 192],
+    class: &[u8; 192],
+    crowd: &[u64; 192],
     level: usize,
     steps: u16,
     used: u64,
     dom: &[u64; 12],
 ) -> Parts
-    requires { ⌜ (people ≤ 64) × (levels ≤ 3) × Mated people levels (now mates) × (1 ≤ level) × (level ≤ levels) × (steps < 4096) × (length (now dom) ≡ 12) ⌝ }
-    ensures { λ r. ⌜ Apart people (classIn (now (mates .entry)) level) steps used (now (dom .entry)) (r .used) (r .heads) ⌝ }
+    requires { ⌜ AtLevel people (now class) (now crowd) level × (steps < 4096) × (length (now dom) ≡ 12) ⌝ }
+    ensures { λ r. ⌜ Apart people (classIn (now (class .entry)) level) steps used (now (dom .entry)) (r .used) (r .heads) ⌝ }
 {
     let mut all = used;
     let mut heads: u16 = 0;
@@ -54,11 +55,11 @@ pub fn apart(
     while left != 0 {
         let s = small::lowest(left);
         left = small::without(left, s);
-        let crowd = reach(people, levels, mates, level, dom[s]);
-        if crowd & all != 0 {
+        let reached = reach(people, class, crowd, level, dom[s]);
+        if reached & all != 0 {
             continue;
         }
-        all = all | crowd;
+        all = all | reached;
         heads = small::with(heads, s);
     }
     Parts {

@@ -1,11 +1,13 @@
 // What the domains of a rule's steps settle of its count.
+use super::mates::mates;
 use bits::set;
 use bits::small;
+use pattern::Size;
 ghost use mathlib.Core.Path.{_≡_};
-ghost use Prim.Native.Nat.{_≤_};
+ghost use Prim.Native.Nat.{_^_, _<_, _≤_};
 ghost use lib.ListN.{length};
 ghost use Rattle.pattern.specs.Tables.{classIn};
-ghost use Rattle.narrow.specs.Domains.{Mated};
+ghost use Rattle.narrow.specs.Domains.{AtLevel};
 ghost use Rattle.narrow.specs.Fixing.{Shared, Fixing};
 
 // The classes that some steps of a scope have in every plan of the domains: their people, and a step
@@ -17,49 +19,48 @@ pub struct Forced {
 }
 
 // The people of the class that all of a domain share, or nobody where they share none.
-fn shared(people: usize, levels: usize, mates: &[u64; 192], level: usize, domain: u64) -> u64
-    requires { ⌜ (people ≤ 64) × (levels ≤ 3) × Mated people levels (now mates) × (1 ≤ level) × (level ≤ levels) ⌝ }
-    ensures { λ r. ⌜ Shared people (classIn (now (mates .entry)) level) domain r ⌝ }
+fn shared(people: usize, class: &[u8; 192], crowd: &[u64; 192], level: usize, domain: u64) -> u64
+    requires { ⌜ AtLevel people (now class) (now crowd) level ⌝ }
+    ensures { λ r. ⌜ Shared people (classIn (now (class .entry)) level) domain r ⌝ }
 {
     if domain == 0 {
         return 0;
     }
-    let crowd = mates[(level - 1) * 64 + set::lowest(domain)];
-    if domain & crowd != domain {
+    let mask = mates(crowd, level, set::lowest(domain));
+    if domain & mask != domain {
         return 0;
     }
-    crowd
+    mask
 }
 
 // What the domains settle of a scope at a level.
 pub fn fixed(
-    steps: usize,
-    people: usize,
-    levels: usize,
-    mates: &[u64; 192],
+    size: Size,
+    class: &[u8; 192],
+    crowd: &[u64; 192],
     level: usize,
     scope: u16,
     dom: &[u64; 12],
 ) -> Forced
-    requires { ⌜ (steps ≤ 12) × (people ≤ 64) × (levels ≤ 3) × Mated people levels (now mates) × (1 ≤ level) × (level ≤ levels) × (length (now dom) ≡ 12) ⌝ }
-    ensures { λ r. ⌜ Fixing steps people (classIn (now (mates .entry)) level) scope (now (dom .entry)) 0 (r .used) (r .heads) (r .wide) ⌝ }
+    requires { ⌜ AtLevel (size .people) (now class) (now crowd) level × (size .steps ≤ 12) × (scope < 2 ^ size .steps) × (length (now dom) ≡ 12) ⌝ }
+    ensures { λ r. ⌜ Fixing (size .steps) (size .people) (classIn (now (class .entry)) level) scope (now (dom .entry)) 0 (r .used) (r .heads) (r .wide) ⌝ }
 {
     let mut used: u64 = 0;
     let mut heads: u16 = 0;
     let mut wide: u16 = 0;
-    let mut left = scope % (1 << steps);
+    let mut left = scope;
     while left != 0 {
         let s = small::lowest(left);
         left = small::without(left, s);
-        let crowd = shared(people, levels, mates, level, dom[s]);
-        if crowd == 0 {
+        let mask = shared(size.people, class, crowd, level, dom[s]);
+        if mask == 0 {
             wide = small::with(wide, s);
             continue;
         }
-        if used & crowd != 0 {
+        if used & mask != 0 {
             continue;
         }
-        used = used | crowd;
+        used = used | mask;
         heads = small::with(heads, s);
     }
     Forced {

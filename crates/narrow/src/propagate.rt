@@ -2,12 +2,16 @@
 use super::revise::revise;
 use bits::set;
 use bits::small;
-use levels::Size;
+use pattern::Size;
 ghost use mathlib.Core.Path.{_≡_};
 ghost use Prim.Native.Nat.{_<_, _≤_};
 ghost use lib.ListN.{length};
 ghost use Rattle.pattern.specs.Tables.{jobIn};
-ghost use Rattle.narrow.specs.Domains.{Massed, Narrowed};
+ghost use Rattle.levels.specs.Tabled.{Tabled};
+ghost use Rattle.narrow.specs.Domains.{Narrowed};
+
+// How many rules a narrowing without a search may look at: more than it needs.
+const ENOUGH: u32 = 100000;
 
 // The rules that name one of these steps. No promise rests on it.
 fn touched(of: &[u64; 12], steps: u16) -> u64
@@ -27,19 +31,16 @@ fn touched(of: &[u64; 12], steps: u16) -> u64
 // whether every step has somebody left.
 pub fn propagate(
     size: Size,
-    mates: &[u64; 192],
-    kind: &[u8; 64],
-    level: &[u8; 64],
-    limit: &[u8; 64],
-    scope: &[u16; 64],
+    class: &[u8; 192],
+    crowd: &[u64; 192],
+    rule: &[u32; 64],
     of: &[u64; 12],
     pending: u64,
     dom: &mut [u64; 12],
     effort: &mut u32,
 ) -> bool
-    requires { ⌜ Massed (size .steps) (size .people) (size .levels) (size .rules) (now mates) (now kind) (now level) (now limit) (now scope)
-        × (length (now of) ≡ 12) × (length (now dom) ≡ 12) ⌝ }
-    ensures { λ r. ⌜ Narrowed (jobIn (size .steps) (size .people) (size .levels) (now (mates .entry)) (size .rules) (now (kind .entry)) (now (level .entry)) (now (limit .entry)) (now (scope .entry)))
+    requires { ⌜ Tabled size (now class) (now crowd) (now rule) (now of) × (length (now dom) ≡ 12) ⌝ }
+    ensures { λ r. ⌜ Narrowed (jobIn size (now (class .entry)) (now (rule .entry)))
         (now (dom .entry)) (now (dom .exit)) r ⌝ }
 {
     let mut waiting = pending;
@@ -53,11 +54,28 @@ pub fn propagate(
         if i >= size.rules {
             continue;
         }
-        let revision = revise(size, mates, kind, level, limit, scope, i, dom);
+        let revision = revise(size, class, crowd, rule, i, dom);
         if revision.failed {
             return false;
         }
         waiting = set::without(waiting | touched(of, revision.changed), i);
     }
     true
+}
+
+// Narrows the domains by all rules of a job. Says whether every step has somebody left.
+pub fn narrow_all(
+    size: Size,
+    class: &[u8; 192],
+    crowd: &[u64; 192],
+    rule: &[u32; 64],
+    of: &[u64; 12],
+    dom: &mut [u64; 12],
+) -> bool
+    requires { ⌜ Tabled size (now class) (now crowd) (now rule) (now of) × (length (now dom) ≡ 12) ⌝ }
+    ensures { λ r. ⌜ Narrowed (jobIn size (now (class .entry)) (now (rule .entry))) (now (dom .entry)) (now (dom .exit)) r ⌝ }
+{
+    let mut effort = ENOUGH;
+    let all = set::below(size.rules);
+    propagate(size, class, crowd, rule, of, all, dom, &mut effort)
 }

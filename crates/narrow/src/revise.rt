@@ -2,19 +2,23 @@
 // there, the open steps join the classes that there are; where it is at the lower end, they avoid them.
 use super::apart::apart;
 use super::apart::reach;
+use super::fixed::Forced;
 use super::fixed::fixed;
 use super::spread::spread;
 use bits::small;
-use eligible::least;
-use eligible::most;
-use levels::Size;
+use pattern::Size;
+use pattern::rule;
 ghost use mathlib.Core.Bool.{true};
 ghost use mathlib.Core.Path.{_≡_};
-ghost use Prim.Native.Nat.{_<_, _≤_};
+ghost use Prim.Native.Nat.{_*_, _<_, _≤_};
 ghost use lib.ListN.{length};
+ghost use lib.Count.{ones};
+ghost use Rattle.pattern.specs.Rule.{levelIn, leastIn, mostIn};
 ghost use Rattle.pattern.specs.Tables.{classIn, jobIn, ruleIn};
-ghost use Rattle.narrow.specs.Domains.{Mated, Massed, Revised};
-ghost use Rattle.narrow.specs.Narrowing.{Common, Spared, Restricted};
+ghost use Rattle.pattern.specs.Given.{Given};
+ghost use Rattle.levels.specs.Tabled.{Gathered};
+ghost use Rattle.narrow.specs.Domains.{AtLevel, Revised};
+ghost use Rattle.narrow.specs.Narrowing.{Common, Spared, Restricted, Open, Allowed};
 ghost use Rattle.narrow.specs.Parting.{Limited};
 ghost use Rattle.narrow.specs.Spreading.{Short};
 
@@ -30,21 +34,21 @@ pub struct Revision {
 // Everybody who shares a class with somebody of the domain of each of these steps.
 fn common(
     people: usize,
-    levels: usize,
-    mates: &[u64; 192],
+    class: &[u8; 192],
+    crowd: &[u64; 192],
     level: usize,
     steps: u16,
     dom: &[u64; 12],
 ) -> u64
-    requires { ⌜ (people ≤ 64) × (levels ≤ 3) × Mated people levels (now mates) × (1 ≤ level) × (level ≤ levels) × (steps < 4096) × (length (now dom) ≡ 12) ⌝ }
-    ensures { λ r. ⌜ Common people (classIn (now (mates .entry)) level) steps (now (dom .entry)) 0 r ⌝ }
+    requires { ⌜ AtLevel people (now class) (now crowd) level × (steps < 4096) × (length (now dom) ≡ 12) ⌝ }
+    ensures { λ r. ⌜ Common people (classIn (now (class .entry)) level) steps (now (dom .entry)) 0 r ⌝ }
 {
     let mut found = ALL;
     let mut left = steps;
     while left != 0 {
         let s = small::lowest(left);
         left = small::without(left, s);
-        found = found & reach(people, levels, mates, level, dom[s]);
+        found = found & reach(people, class, crowd, level, dom[s]);
     }
     found
 }
@@ -63,24 +67,30 @@ fn left_to(used: u64, groups: usize, wide: usize, lowest: usize, highest: usize)
     ALL
 }
 
-// The people among whom an upper limit leaves the open steps: those that are apart have a class each,
-// so that too many of them leave nobody, and just enough leave the classes that these have.
+// The people among whom the upper limit of a rule leaves the open steps: those that are apart have a class
+// each, so that too many of them leave nobody, and just enough leave the classes that these have.
 fn upper(
     people: usize,
-    levels: usize,
-    mates: &[u64; 192],
-    level: usize,
-    groups: usize,
-    highest: usize,
-    steps: u16,
-    used: u64,
+    class: &[u8; 192],
+    crowd: &[u64; 192],
+    r: u32,
+    forced: Forced,
     dom: &[u64; 12],
 ) -> u64
-    requires { ⌜ (people ≤ 64) × (levels ≤ 3) × Mated people levels (now mates) × (1 ≤ level) × (level ≤ levels) × (groups ≤ 16) × (steps < 4096) × (length (now dom) ≡ 12) ⌝ }
-    ensures { λ r. ⌜ Limited people (classIn (now (mates .entry)) level) steps used (now (dom .entry)) groups highest r ⌝ }
+    requires { ⌜ Open people (now class) (now crowd) r (forced .heads) (forced .wide) (now dom) ⌝ }
+    ensures { λ a. ⌜ Limited people (classIn (now (class .entry)) (levelIn r)) (forced .wide) (forced .used) (now (dom .entry)) (ones (forced .heads)) (mostIn r) a ⌝ }
 {
-    let parts = apart(people, levels, mates, level, steps, used, dom);
-    let total = groups + u16::count_ones(parts.heads) as usize;
+    let parts = apart(
+        people,
+        class,
+        crowd,
+        rule::level(r),
+        forced.wide,
+        forced.used,
+        dom,
+    );
+    let total = u16::count_ones(forced.heads) as usize + u16::count_ones(parts.heads) as usize;
+    let highest = rule::most(r);
     if total > highest {
         return 0;
     }
@@ -90,34 +100,65 @@ fn upper(
     parts.used
 }
 
-// Whether the open steps can only add too few classes to the `groups` that are had. It is asked of
-// rules with at least so many classes alone: the others ask for 2 at most, and it takes its time.
+// Whether the open steps can only add too few classes to those that are had. It is not asked where there are
+// two at most: it takes its time.
 fn short(
     people: usize,
-    levels: usize,
-    mates: &[u64; 192],
-    level: usize,
-    kind: u8,
-    groups: usize,
-    lowest: usize,
-    steps: u16,
-    used: u64,
+    class: &[u8; 192],
+    crowd: &[u64; 192],
+    r: u32,
+    forced: Forced,
     dom: &[u64; 12],
 ) -> bool
-    requires { ⌜ (people ≤ 64) × (levels ≤ 3) × Mated people levels (now mates) × (1 ≤ level) × (level ≤ levels) × (groups ≤ 16) × (steps < 4096) × (length (now dom) ≡ 12) ⌝ }
-    ensures { λ r. ⌜ (r ≡ true → Short people (classIn (now (mates .entry)) level) steps used (now (dom .entry)) groups lowest) ⌝ }
+    requires { ⌜ Open people (now class) (now crowd) r (forced .heads) (forced .wide) (now dom) ⌝ }
+    ensures { λ a. ⌜ (a ≡ true → Short people (classIn (now (class .entry)) (levelIn r)) (forced .wide) (forced .used) (now (dom .entry)) (ones (forced .heads)) (leastIn r)) ⌝ }
 {
-    if kind != 4 {
+    let groups = u16::count_ones(forced.heads) as usize;
+    if groups + u16::count_ones(forced.wide) as usize <= 2 {
         return false;
     }
+    let lowest = rule::least(r);
     if groups >= lowest {
         return false;
     }
-    let fresh = spread(people, levels, mates, level, steps, used, dom);
-    if groups + fresh >= lowest {
-        return false;
+    let fresh = spread(
+        people,
+        class,
+        crowd,
+        rule::level(r),
+        forced.wide,
+        forced.used,
+        dom,
+    );
+    groups + fresh < lowest
+}
+
+// The people among whom a rule leaves its open steps.
+fn allowed(
+    people: usize,
+    class: &[u8; 192],
+    crowd: &[u64; 192],
+    r: u32,
+    forced: Forced,
+    dom: &[u64; 12],
+) -> u64
+    requires { ⌜ Open people (now class) (now crowd) r (forced .heads) (forced .wide) (now dom) ⌝ }
+    ensures { λ a. ⌜ Allowed people (classIn (now (class .entry)) (levelIn r)) r (forced .wide) (forced .used) (now (dom .entry)) (ones (forced .heads)) (ones (forced .wide)) a ⌝ }
+{
+    let groups = u16::count_ones(forced.heads) as usize;
+    let open = u16::count_ones(forced.wide) as usize;
+    let highest = rule::most(r);
+    if groups == 0 {
+        if highest == 1 {
+            return common(people, class, crowd, rule::level(r), forced.wide, dom);
+        }
     }
-    true
+    if groups < highest {
+        if highest < groups + open {
+            return upper(people, class, crowd, r, forced, dom);
+        }
+    }
+    left_to(forced.used, groups, open, rule::least(r), highest)
 }
 
 // Leaves these steps only such people; fails where a step has nobody left.
@@ -153,85 +194,37 @@ fn restrict(steps: u16, people: u64, dom: &mut [u64; 12]) -> Revision
 // Narrows the domains by rule `i`.
 pub fn revise(
     size: Size,
-    mates: &[u64; 192],
-    kind: &[u8; 64],
-    level: &[u8; 64],
-    limit: &[u8; 64],
-    scope: &[u16; 64],
+    class: &[u8; 192],
+    crowd: &[u64; 192],
+    rule: &[u32; 64],
     i: usize,
     dom: &mut [u64; 12],
 ) -> Revision
-    requires { ⌜ Massed (size .steps) (size .people) (size .levels) (size .rules) (now mates) (now kind) (now level) (now limit) (now scope)
-        × (i < size .rules) × (length (now dom) ≡ 12) ⌝ }
-    ensures { λ r. ⌜ Revised (jobIn (size .steps) (size .people) (size .levels) (now (mates .entry)) (size .rules) (now (kind .entry)) (now (level .entry)) (now (limit .entry)) (now (scope .entry)))
-        (ruleIn (now (kind .entry)) (now (level .entry)) (now (limit .entry)) (now (scope .entry)) i) (now (dom .entry)) (now (dom .exit)) (r .failed)
-        × (r .changed < 4096) ⌝ }
+    requires { ⌜ Given size (now class) (now rule) × Gathered (size .people) (size .levels) (now class) (now crowd) × (i < size .rules) × (length (now dom) ≡ 12) ⌝ }
+    ensures { λ a. ⌜ Revised (jobIn size (now (class .entry)) (now (rule .entry))) (ruleIn (now (rule .entry)) i) (now (dom .entry)) (now (dom .exit)) (a .failed)
+        × (a .changed < 4096) ⌝ }
 {
-    let at = level[i] as usize;
-    let so_far = fixed(
-        size.steps,
-        size.people,
-        size.levels,
-        mates,
-        at,
-        scope[i],
-        dom,
-    );
-    let groups = u16::count_ones(so_far.heads) as usize;
-    let open = u16::count_ones(so_far.wide) as usize;
-    let highest = most(kind[i], limit[i], size.steps);
-    if groups > highest {
+    let r = rule[i];
+    let forced = fixed(size, class, crowd, rule::level(r), rule::scope(r), dom);
+    let groups = u16::count_ones(forced.heads) as usize;
+    if groups > rule::most(r) {
         return Revision {
             failed: true,
             changed: 0,
         };
     }
-    let lowest = least(kind[i], limit[i]) as usize;
-    if groups + open < lowest {
+    if rule::least(r) > groups + u16::count_ones(forced.wide) as usize {
         return Revision {
             failed: true,
             changed: 0,
         };
     }
-    if short(
-        size.people,
-        size.levels,
-        mates,
-        at,
-        kind[i],
-        groups,
-        lowest,
-        so_far.wide,
-        so_far.used,
-        dom,
-    ) {
+    if short(size.people, class, crowd, r, forced, dom) {
         return Revision {
             failed: true,
             changed: 0,
         };
     }
-    if groups == 0 {
-        if highest == 1 {
-            let people = common(size.people, size.levels, mates, at, so_far.wide, dom);
-            return restrict(so_far.wide, people, dom);
-        }
-    }
-    if groups < highest {
-        if highest < groups + open {
-            let people = upper(
-                size.people,
-                size.levels,
-                mates,
-                at,
-                groups,
-                highest,
-                so_far.wide,
-                so_far.used,
-                dom,
-            );
-            return restrict(so_far.wide, people, dom);
-        }
-    }
-    let people = left_to(so_far.used, groups, open, lowest, highest);
-    restrict(so_far.wide, people, dom)
+    let people = allowed(size.people, class, crowd, r, forced, dom);
+    restrict(forced.wide, people, dom)
 }

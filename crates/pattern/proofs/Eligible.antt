@@ -7,12 +7,10 @@ use native.Mathlib.Omega.{arith}
 use borrow.Author.Tests.{not-true}
 use Rattle.bits.proofs.Below.{true-false, and-left, and-right}
 use Rattle.bits.proofs.Counting.{and-of, is-false, count-none}
-use Rattle.workflow.specs.Problem.{Rule, Job, Plan, distinct, classCount, Met, RuleOk}
-use Rattle.workflow.specs.Interval.{InInterval}
+use Rattle.workflow.specs.Problem.{Rule, Job, Plan, distinct, classCount, InBounds, Met, RuleOk}
 use Rattle.workflow.specs.Independent.{classesOf}
 use Rattle.workflow.proofs.Counts.{distinct-alike}
 use Rattle.workflow.proofs.Occurs.{distinct-scope-mono, distinct-scope-split}
-use Rattle.workflow.proofs.Rules.{met-interval}
 use Rattle.pattern.specs.Pattern.{Label, Has}
 use Rattle.pattern.specs.Eligible.{groupCount, openCount, Possible}
 use Rattle.pattern.proofs.Sets.{alike-part, alike-sym}
@@ -47,9 +45,7 @@ module _ (j : Job) (placed : ℕ → Bool) (label : Label) (π : Plan) (has : Ha
 
   -- a rule that is met was possible
   pub met-possible : Met j r π → Possible (j .steps) placed label r
-  met-possible m =
-      let i : InInterval (j .steps) r (classCount j r π) = met-interval j r ok π .0 m in
-      record { most = omega (arith, i .most, count-least); least = omega (arith, i .least, count-most) }
+  met-possible m = record { most = omega (arith, m .most, count-least); least = omega (arith, m .least, count-most) }
 
   -- where the scope is placed, the groups are the count
   pub count-exact : ((s : ℕ) → s < j .steps → r .scope s ≡ true → placed s ≡ true) → groupCount (j .steps) placed label r ≡ classCount j r π
@@ -63,11 +59,11 @@ module _ (j : Job) (placed : ℕ → Bool) (label : Label) (π : Plan) (has : Ha
             (λ t. true-false (all s l (and-left (r .scope s) _ t)) (not-true (placed s) (and-right (r .scope s) _ t)))),
       )
 
-  -- and the rule is met exactly where they lie in its interval
-  pub met-exact : ((s : ℕ) → s < j .steps → r .scope s ≡ true → placed s ≡ true) → Met j r π ↔ InInterval (j .steps) r (groupCount (j .steps) placed label r)
+  -- and the rule is met exactly where they lie within its bounds
+  pub met-exact : ((s : ℕ) → s < j .steps → r .scope s ≡ true → placed s ≡ true) → Met j r π ↔ InBounds r (groupCount (j .steps) placed label r)
   met-exact all = (
-    λ m. subst (InInterval (j .steps) r) (sym (count-exact all)) (met-interval j r ok π .0 m),
-    λ i. met-interval j r ok π .1 (subst (InInterval (j .steps) r) (count-exact all) i),
+    λ m. subst (InBounds r) (sym (count-exact all)) m,
+    λ i. subst (InBounds r) (count-exact all) i,
   )
 
 -- whether a rule over placed steps is met depends on the pattern alone

@@ -12,4 +12,5 @@ pub mod Grown
 pub mod Search
 pub mod Same
 pub mod Counted
-pub mod Kept
+pub mod Packing
+pub mod Given

@@ -6,8 +6,7 @@ use Prim.Native.Nat.{ℕ, suc, _≤_, _<_}
 use native.Mathlib.Omega.{arith}
 use Rattle.bits.proofs.Below.{and-right}
 use Rattle.bits.proofs.Counting.{count-cong}
-use Rattle.workflow.specs.Problem.{Rule, Job, May, Plan, RuleOk, distinct}
-use Rattle.workflow.specs.Interval.{InInterval}
+use Rattle.workflow.specs.Problem.{Rule, Job, May, Plan, InBounds, RuleOk, distinct}
 use Rattle.workflow.proofs.Counts.{distinct-cong}
 use Rattle.workflow.proofs.Occurs.{distinct-scope-mono}
 use Rattle.pattern.specs.Pattern.{Label, Labelled, Pattern, Has, SamePattern}
@@ -98,7 +97,7 @@ module _ (j : Job) (placed placed′ : ℕ → Bool) (label label′ : Label) (s
   complete-same may ok w =
       record {
         eligible = λ i l.
-            subst (InInterval (j .steps) (j .rule i))
+            subst (InBounds (j .rule i))
             (group-count-same (j .steps) (j .levels) placed placed′ label label′ same (j .rule i) (ok .rule-ok i l)) (w .eligible i l);
         realized = realized-same may (λ p. true) (w .realized);
         others = λ s l h. w .others s l (same .sets s l ∙ h);

@@ -4,7 +4,6 @@ use mathlib.Core.Path.{_≡_}
 use Prim.Native.Nat.{ℕ, _+_, _≤_, _<_}
 use Rattle.bits.specs.Below.{count}
 use Rattle.workflow.specs.Problem.{Rule, Job, distinct}
-use Rattle.workflow.specs.Interval.{lowest, highest}
 use Rattle.pattern.specs.Pattern.{Label}
 
 -- the number of groups of the rule's level over the placed steps of its scope
@@ -17,8 +16,8 @@ openCount steps placed r = count steps (λ s. r .scope s && not (placed s))
 
 -- the rule can still be met: the groups are not too many, and would not be too few if each open step opened one
 pub record Possible (steps : ℕ) (placed : ℕ → Bool) (label : Label) (r : Rule) : Type 0 where
-  pub most : groupCount steps placed label r ≤ highest (r .kind) (r .limit) steps
-  pub least : lowest (r .kind) (r .limit) ≤ groupCount steps placed label r + openCount steps placed r
+  pub most : groupCount steps placed label r ≤ r .most
+  pub least : r .least ≤ groupCount steps placed label r + openCount steps placed r
 
 -- every step that some rule names is placed
 abbrev pub AllNamed : Job → (ℕ → Bool) → Type 0

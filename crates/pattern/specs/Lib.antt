@@ -3,5 +3,6 @@ pub mod Place
 pub mod Eligible
 pub mod Realize
 pub mod Search
-pub mod Kept
+pub mod Rule
 pub mod Tables
+pub mod Given

@@ -4,8 +4,9 @@ use mathlib.Core.List.{List}
 use Prim.Native.Nat.{ℕ, _+_, _*_, _-_}
 use lib.ListN.{getD}
 use Rattle.bits.specs.Word.{hasBit}
-use Rattle.workflow.specs.Problem.{Job}
-pub use Rattle.workflow.specs.Numbered.{kindIn, ruleIn}
+use Rattle.workflow.specs.Problem.{Rule, Job}
+use Rattle.pattern.specs.declared.Size.{Size}
+use Rattle.pattern.specs.Rule.{unpacked}
 
 -- the class of person p at level q, from 1: 64 entries a level
 abbrev pub classIn : List ℕ → ℕ → ℕ → ℕ
@@ -23,14 +24,18 @@ labelIn label q s = getD label ((q - 1) * 12 + s) 0
 abbrev pub planIn : List ℕ → ℕ → ℕ
 planIn plan s = getD plan s 0
 
+-- rule i, each rule being one number
+abbrev pub ruleIn : List ℕ → ℕ → Rule
+ruleIn rule i = unpacked (getD rule i 0)
+
 -- the job of these arrays
-abbrev pub jobIn : ℕ → ℕ → ℕ → List ℕ → ℕ → List ℕ → List ℕ → List ℕ → List ℕ → Job
-jobIn steps people levels class rules kind level limit scope =
+abbrev pub jobIn : Size → List ℕ → List ℕ → Job
+jobIn size class rule =
     record {
-      steps = steps;
-      people = people;
-      levels = levels;
+      steps = size .steps;
+      people = size .people;
+      levels = size .levels;
       class = classIn class;
-      rules = rules;
-      rule = ruleIn kind level limit scope;
+      rules = size .rules;
+      rule = ruleIn rule;
     }

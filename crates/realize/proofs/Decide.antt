@@ -1,6 +1,7 @@
 -- The graph that the tables hold is that of Lemma 3.9, so its matchings decide. Assumes nothing.
 use mathlib.Core.Bool.{Bool, true, false}
 use mathlib.Core.List.{List}
+use mathlib.Core.Logic.{⊎-elim}
 use mathlib.Core.Path.{_≡_, refl, sym, subst, _∙_}
 use Prim.Native.Nat.{ℕ, suc, _+_, _*_, _≤_, _<_}
 use native.Mathlib.Numerals.{add-one}
@@ -12,7 +13,7 @@ use Rattle.bits.specs.Word.{hasBit}
 use Rattle.bits.proofs.Below.{by-cases, true-false, and-right}
 use Rattle.bits.proofs.Counting.{and-of}
 use Rattle.bits.proofs.SetLaws.{empty-lacks, has-below}
-use Rattle.matching.specs.Assignment.{Assignment, Covers, inMask, suits}
+use Rattle.matching.specs.Assignment.{Assignment, Covers, inMask, suits, classAt}
 use Rattle.workflow.specs.Problem.{Job}
 use Rattle.pattern.specs.Tables.{mayIn, labelIn}
 use Rattle.pattern.specs.Realize.{Realized, fibre, groups, leader, Hosts, Matching}
@@ -20,10 +21,12 @@ use Rattle.pattern.proofs.Leader.{leader-below, leader-own}
 use Rattle.pattern.proofs.Sets.{fibre-of, fibre-in, fibre-at, groups-in, groups-own}
 use Rattle.pattern.proofs.Realize.{realized-mono, realized-last}
 use Rattle.pattern.proofs.Matching.{realized-match, match-realized}
-use Rattle.realize.specs.Masks.{Mask, Says}
+use Rattle.bits.specs.Set.{Mask}
+use Rattle.bits.specs.Says.{Says}
 use Rattle.realize.specs.Parts.{Part}
-use Rattle.realize.specs.Decision.{Staffing, Decided, Row, Linked, Unhosted}
-use Rattle.realize.proofs.Masks.{says-of, says-true, says-false, mask-has, mask-in}
+use Rattle.realize.specs.Decision.{Staffing, Decided, Row, Linked, Unhosted, Covering}
+use Rattle.bits.proofs.Masks.{mask-has, mask-in}
+use Rattle.bits.proofs.Says.{says-of, says-true, says-false}
 use Rattle.realize.proofs.Descend.{steps-next, people-next}
 
 -- a class of level q + 1 inside `people`, at its name v
@@ -46,7 +49,7 @@ module _ (j : Job) (levels : ℕ) (may label crowd reach : List ℕ) (q steps pe
 
     crowd-of : (p : ℕ) → hasBit people p ≡ true → j .class (suc q) p ≡ v → hasBit (getD crowd (q * 64 + v) 0) p ≡ true
     crowd-of p h k =
-        subst (λ (x : ℕ). hasBit (getD crowd (q * 64 + x) 0) p ≡ true) k (part .tables .crowd-has q p depth (part .people .below p h))
+        part .tables .crowd-has q v p depth l (part .people .below p h) (k ∙ sym leader-name)
 
     fibre-crowd : (p : ℕ) → fibre (hasBit people) (j .class (suc q)) (j .class (suc q) v) p ≡ true → hasBit (getD crowd (q * 64 + v) 0) p ≡ true
     fibre-crowd p h =
@@ -56,8 +59,8 @@ module _ (j : Job) (levels : ℕ) (may label crowd reach : List ℕ) (q steps pe
       -- the people hold the whole class
       crowd-in : (p : ℕ) → hasBit (getD crowd (q * 64 + v) 0) p ≡ true → (hasBit people p ≡ true) × (j .class (suc q) p ≡ v)
       crowd-in p h =
-          let w = part .tables .crowd-only q v p depth (omega (arith, part .tables .few)) h in
-          (part .people .whole (suc q) (omega arith) depth .classmate v p l (w .0) (leader-name ∙ sym (w .1)) i, w .1)
+          let w = part .tables .crowd-only q v p depth l h in
+          (part .people .whole (suc q) (omega arith) depth .classmate v p l (w .0) (sym (w .1)) i, w .1 ∙ leader-name)
 
       pub crowd-fibre : (p : ℕ) → hasBit (getD crowd (q * 64 + v) 0) p ≡ true
           → fibre (hasBit people) (j .class (suc q)) (j .class (suc q) v) p ≡ true
@@ -127,7 +130,7 @@ module _ (j : Job) (levels : ℕ) (may label crowd reach : List ℕ) (q steps pe
           inside = k;
           leads = x .1;
           realized = realized-sets j levels may label crowd reach q steps people deep part v (x .0) (x .1) k g (w .group) (w .mask)
-              (says-true (hasBit row v) (decided n (x .0) (x .1)) h);
+              (says-true (hasBit row v) _ (decided n (x .0) (x .1)) h);
         }
 
     -- a class that hosts a group has somebody for each of its steps
@@ -149,11 +152,11 @@ module _ (j : Job) (levels : ℕ) (may label crowd reach : List ℕ) (q steps pe
     hosts-row x =
         let n : hasBit (w .hosted .names) v ≡ true = hosts-named x in
         by-cases (hasBit row v) (λ t. t)
-        (λ t. absurd (says-false (hasBit row v) (decided n (x .person) (x .leads)) t
+        (λ t. absurd (says-false (hasBit row v) _ (decided n (x .person) (x .leads)) t
         (realized-masks j levels may label crowd reach q steps people deep part v (x .person) (x .leads) (x .inside) g (w .group) (w .mask) (x .realized))))
 
   -- with an empty row there is no plan
-  pub unhosted-not : {heads : ℕ} → Mask (groups (hasBit steps) (labelIn label (suc q))) heads → Unhosted levels may label crowd reach q steps people heads
+  unhosted-not : {heads : ℕ} → Mask (groups (hasBit steps) (labelIn label (suc q))) heads → Unhosted levels may label crowd reach q steps people heads
       → Realized j (mayIn may) (labelIn label) q (hasBit steps) (hasBit people) → ⊥
   unhosted-not mask w r =
       let d : q < j .levels = depth j levels may label crowd reach q steps people deep part in
@@ -196,7 +199,7 @@ module _ (j : Job) (levels : ℕ) (may label crowd reach : List ℕ) (q steps pe
         injective = λ g h l m i k e. a .apart g h (of-groups g i) (of-groups h k) e;
       }
 
-  pub matching-assignment : (f : ℕ → ℕ)
+  matching-assignment : (f : ℕ → ℕ)
       → Matching (j .steps) (groups (hasBit steps) (labelIn label (suc q))) (Hosts j (mayIn may) (labelIn label) q (hasBit steps) (hasBit people)) f
       → Assignment (inMask heads) (suits edges) f
   matching-assignment f m =
@@ -210,17 +213,37 @@ module _ (j : Job) (levels : ℕ) (may label crowd reach : List ℕ) (q steps pe
       below : (g : ℕ) → inMask heads g ≡ true → g < j .steps
       below g h = part .steps .below g (groups-in (hasBit steps) (labelIn label (suc q)) g (in-groups g h))
 
-  pub covers-realized : {found : Bool} {f : ℕ → ℕ} → Covers (inMask heads) (suits edges) found f → found ≡ true
-      → Realized j (mayIn may) (labelIn label) q (hasBit steps) (hasBit people)
-  covers-realized {found} {f} w e =
-      match-realized j (mayIn may) (labelIn label) q down (hasBit steps) (hasBit people) (part .tables .refining) (part .steps .consistent)
-      (part .steps .labelled (suc q) (omega arith) down) f (assignment-matching f (w .sound e))
-
-  pub covers-not : {found : Bool} {f : ℕ → ℕ} → Covers (inMask heads) (suits edges) found f → found ≡ false
+  covers-not : {found : Bool} {f : ℕ → ℕ} → Covers (inMask heads) (suits edges) found f → found ≡ false
       → Realized j (mayIn may) (labelIn label) q (hasBit steps) (hasBit people) → ⊥
   covers-not w e r =
       let m = realized-match j (mayIn may) (labelIn label) q down (hasBit steps) (hasBit people) (part .people .whole (suc q) (omega arith) down) r in
       w .complete e (m .0) (matching-assignment (m .0) (m .1))
+
+-- ---- the answers of `cover`
+
+-- what is found is an assignment along the rows
+pub covering-assigned : {levels : ℕ} {may label crowd reach : List ℕ} {q steps people : ℕ} {found : Bool} {at : List ℕ}
+    (w : Covering levels may label crowd reach q steps people found at) → found ≡ true
+    → (edges : List ℕ) × Linked levels may label crowd reach q steps people (w .heads) 0 edges × Assignment (inMask (w .heads)) (suits edges) (classAt at)
+covering-assigned w e = ⊎-elim (λ u. true-false e (u .0)) (λ x. (x .0, x .1, x .2 .sound e)) (w .answer)
+
+module _ (j : Job) (levels : ℕ) (may label crowd reach : List ℕ) (q steps people : ℕ) (deep : q < levels) (few : steps < 4096)
+    (part : Part j levels may label crowd reach q (hasBit steps) (hasBit people)) {found : Bool} {at : List ℕ}
+    (w : Covering levels may label crowd reach q steps people found at) where
+  covering-realized : found ≡ true → Realized j (mayIn may) (labelIn label) q (hasBit steps) (hasBit people)
+  covering-realized e =
+      let a = covering-assigned w e in
+      let d : q < j .levels = depth j levels may label crowd reach q steps people deep part in
+      match-realized j (mayIn may) (labelIn label) q d (hasBit steps) (hasBit people) (part .tables .refining) (part .steps .consistent)
+      (part .steps .labelled (suc q) (omega arith) d) (classAt at)
+      (assignment-matching j levels may label crowd reach q steps people (w .heads) (a .0) deep few part (w .mask) (a .1) (classAt at) (a .2))
+
+  pub covering-not : found ≡ false → Realized j (mayIn may) (labelIn label) q (hasBit steps) (hasBit people) → ⊥
+  covering-not e r =
+      ⊎-elim
+      (λ u. unhosted-not j levels may label crowd reach q steps people deep few part (w .mask) (u .1) r)
+      (λ x. covers-not j levels may label crowd reach q steps people (w .heads) (x .0) deep few part (w .mask) (x .1) (x .2) e r)
+      (w .answer)
 
 -- ---- the answers of `decide`
 
@@ -230,10 +253,10 @@ module _ {levels : ℕ} {may label crowd reach : List ℕ} {q steps people : ℕ
   decided-last {r} d w = record {
     says = λ j part.
         let last = realized-last j (mayIn may) (labelIn label) q (omega (arith, part .tables .depth)) (hasBit steps) (hasBit people) in
-        says-of r
-        (λ e. let all = says-true r w e in
+        says-of r _
+        (λ e. let all = says-true r _ w e in
         last .1 (λ s l h. let a = all .able s h (empty-lacks s) in (a .0, part .people .below (a .0) (a .1), a .1, a .2)))
-        (λ e x. says-false r w e (record {
+        (λ e x. says-false r _ w e (record {
           part = λ s h. true-false h (empty-lacks s);
           able = λ s h n.
               let l : s < j .steps = part .steps .below s h in
@@ -241,20 +264,12 @@ module _ {levels : ℕ} {may label crowd reach : List ℕ} {q steps people : ℕ
         }));
   }
 
-  -- a group that no class hosts
-  pub decided-unhosted : {heads : ℕ} → q < levels → steps < 4096 → Mask (groups (hasBit steps) (labelIn label (suc q))) heads
-      → Unhosted levels may label crowd reach q steps people heads → Decided levels may label crowd reach q steps people false
-  decided-unhosted {heads} deep few mask w = record {
-    says = λ j part. unhosted-not j levels may label crowd reach q steps people deep few part mask w;
-  }
-
   -- a matching, or none
-  pub decided-covers : {heads : ℕ} {edges : List ℕ} {found : Bool} {f : ℕ → ℕ} → q < levels → steps < 4096
-      → Mask (groups (hasBit steps) (labelIn label (suc q))) heads → Linked levels may label crowd reach q steps people heads 0 edges
-      → Covers (inMask heads) (suits edges) found f → Decided levels may label crowd reach q steps people found
-  decided-covers {heads} {edges} {found} deep few mask linked w = record {
+  pub decided-covering : {found : Bool} {at : List ℕ} → q < levels → steps < 4096 → Covering levels may label crowd reach q steps people found at
+      → Decided levels may label crowd reach q steps people found
+  decided-covering {found} deep few w = record {
     says = λ j part.
-        says-of found
-        (covers-realized j levels may label crowd reach q steps people heads edges deep few part mask linked w)
-        (covers-not j levels may label crowd reach q steps people heads edges deep few part mask linked w);
+        says-of found _
+        (covering-realized j levels may label crowd reach q steps people deep few part w)
+        (covering-not j levels may label crowd reach q steps people deep few part w);
   }

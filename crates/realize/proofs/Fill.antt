@@ -13,20 +13,20 @@ use Rattle.bits.specs.Set.{Removed}
 use Rattle.bits.proofs.Below.{by-cases, true-false, and-left}
 use Rattle.bits.proofs.Counting.{and-of}
 use Rattle.bits.proofs.SetLaws.{empty-lacks, has-below, removed-other, removed-was}
-use Rattle.matching.specs.Assignment.{Assignment, Covers, inMask, suits, classAt}
+use Rattle.matching.specs.Assignment.{Assignment, inMask, suits, classAt}
 use Rattle.workflow.specs.Problem.{Job}
 use Rattle.pattern.specs.Tables.{mayIn, labelIn, planIn}
 use Rattle.pattern.specs.Realize.{Realizes, Realized, fibre, groups, Hosts, Matching}
 use Rattle.pattern.proofs.Sets.{fibre-in, fibre-at}
 use Rattle.pattern.proofs.Realize.{realizes-mono, realizes-agree, realizes-last, realizes-glue}
 use Rattle.pattern.proofs.Matching.{matching-differ}
-use Rattle.realize.specs.Masks.{Mask}
+use Rattle.bits.specs.Set.{Mask}
 use Rattle.realize.specs.Parts.{Part}
-use Rattle.realize.specs.Decision.{Linked, Unhosted}
+use Rattle.realize.specs.Decision.{Covering}
 use Rattle.realize.specs.Filling.{StaffedBy, Filled, SentGroup, Sent, Settled}
-use Rattle.realize.proofs.Masks.{mask-has, mask-in}
+use Rattle.bits.proofs.Masks.{mask-has, mask-in}
 use Rattle.realize.proofs.Staff.{kept-none}
-use Rattle.realize.proofs.Decide.{depth, crowd-fibre, part-next, realized-masks, assignment-matching, covers-not, unhosted-not}
+use Rattle.realize.proofs.Decide.{depth, crowd-fibre, part-next, realized-masks, assignment-matching, covering-assigned, covering-not}
 
 -- ---- the classes that an assignment gives
 
@@ -37,15 +37,11 @@ class-at (x ∷ xs) zero l = refl
 class-at (x ∷ xs) (suc g) l = class-at xs g l
 
 module _ (heads : ℕ) (edges at : List ℕ) (a : Assignment (inMask heads) (suits edges) (classAt at)) where
-  given : (g : ℕ) → inMask heads g ≡ true → classAt at g ≡ getD at g 0
-  given g h = class-at at g (ltb-true (classAt at g) 64 (and-left (ltb (classAt at g) 64) _ (a .along g h)))
+  below : (g : ℕ) → inMask heads g ≡ true → classAt at g < 64
+  below g h = ltb-true (classAt at g) 64 (and-left (ltb (classAt at g) 64) _ (a .along g h))
 
-  pub settled : heads < 4096 → Settled heads at
-  settled few = record {
-    below = λ g h.
-        let i : inMask heads g ≡ true = and-of (ltb g 12) (hasBit heads g) (lt-ltb g 12 (has-below 12 heads g few h)) h in
-        subst (λ (x : ℕ). x < 64) (given g i) (ltb-true (classAt at g) 64 (and-left (ltb (classAt at g) 64) _ (a .along g i)));
-  }
+  given : (g : ℕ) → inMask heads g ≡ true → classAt at g ≡ getD at g 0
+  given g h = class-at at g (below g h)
 
   assignment-at : Assignment (inMask heads) (suits edges) (λ g. getD at g 0)
   assignment-at =
@@ -53,6 +49,17 @@ module _ (heads : ℕ) (edges at : List ℕ) (a : Assignment (inMask heads) (sui
         along = λ g h. subst (λ (x : ℕ). suits edges g x ≡ true) (given g h) (a .along g h);
         apart = λ g k h i e. a .apart g k h i (given g h ∙ e ∙ sym (given k i));
       }
+
+-- `cover` does not return its mask of the groups, so any other serves
+pub settled : {levels : ℕ} {may label crowd reach : List ℕ} {q steps people : ℕ} {found : Bool} {at : List ℕ} {heads : ℕ}
+    → Covering levels may label crowd reach q steps people found at → found ≡ true → Mask (groups (hasBit steps) (labelIn label (suc q))) heads
+    → heads < 4096 → Settled heads at
+settled {at = at} {heads = heads} w e mask few = record {
+  below = λ g h.
+      let a = covering-assigned w e in
+      let i = and-of (ltb g 12) (hasBit (w .heads) g) (lt-ltb g 12 (has-below 12 heads g few h)) (mask-has (w .mask) g (mask-in mask g h)) in
+      subst (λ (x : ℕ). x < 64) (given (w .heads) (a .0) at (a .2) g i) (below (w .heads) (a .0) at (a .2) g i);
+}
 
 -- ---- the loop over the groups
 
@@ -117,31 +124,19 @@ module _ {levels : ℕ} {may label crowd reach : List ℕ} {q steps people : ℕ
             (part .people .below (planIn after s) (a .0), a .0, a .1));
       }
 
-  -- a group that no class hosts: the steps cannot go to the people, and nothing is written
-  pub filled-unhosted : {heads : ℕ} {plan : List ℕ} → q < levels → steps < 4096 → Mask (groups (hasBit steps) (labelIn label (suc q))) heads
-      → Unhosted levels may label crowd reach q steps people heads → Filled levels may label crowd reach q steps people plan plan
-  filled-unhosted {heads} {plan} deep few mask w =
-      record {
-        kept = kept-none steps plan;
-        realizes = λ j part r. absurd (unhosted-not j levels may label crowd reach q steps people deep few part mask w r);
-      }
-
-  module _ {heads : ℕ} {edges : List ℕ} (at : List ℕ) (deep : q < levels) (few : steps < 4096)
-      (mask : Mask (groups (hasBit steps) (labelIn label (suc q))) heads) (linked : Linked levels may label crowd reach q steps people heads 0 edges)
-      {found : Bool} (cover : Covers (inMask heads) (suits edges) found (classAt at)) where
-    -- no matching: the same
+  module _ {found : Bool} {at : List ℕ} (deep : q < levels) (few : steps < 4096) (w : Covering levels may label crowd reach q steps people found at) where
+    -- no matching: the steps cannot go to the people, and nothing is written
     pub filled-none : {plan : List ℕ} → found ≡ false → Filled levels may label crowd reach q steps people plan plan
     filled-none {plan} e =
         record {
           kept = kept-none steps plan;
-          realizes = λ j part r.
-              absurd (covers-not j levels may label crowd reach q steps people heads edges deep few part mask linked cover e r);
+          realizes = λ j part r. absurd (covering-not j levels may label crowd reach q steps people deep few part w e r);
         }
 
     -- a matching, and each group sent to its class
-    pub filled-sent : {before after : List ℕ} → found ≡ true → Sent levels may label crowd reach q steps heads 0 at before after
-        → Filled levels may label crowd reach q steps people before after
-    filled-sent {before} {after} e sent = record { kept = sent .kept; realizes = realizes }
+    pub filled-sent : {heads : ℕ} {before after : List ℕ} → found ≡ true → Mask (groups (hasBit steps) (labelIn label (suc q))) heads
+        → Sent levels may label crowd reach q steps heads 0 at before after → Filled levels may label crowd reach q steps people before after
+    filled-sent {heads} {before} {after} e mask sent = record { kept = sent .kept; realizes = realizes }
       where
         c : ℕ → ℕ
         c = labelIn label (suc q)
@@ -162,15 +157,16 @@ module _ {levels : ℕ} {may label crowd reach : List ℕ} {q steps people : ℕ
             f g = getD at g 0
 
             m : Matching (j .steps) (groups (hasBit steps) c) (Hosts j (mayIn may) (labelIn label) q (hasBit steps) (hasBit people)) f
-            m = assignment-matching j levels may label crowd reach q steps people heads edges deep few part mask linked f
-                (assignment-at heads edges at (cover .sound e))
+            m = let a = covering-assigned w e in
+                assignment-matching j levels may label crowd reach q steps people (w .heads) (a .0) deep few part (w .mask) (a .1) f
+                (assignment-at (w .heads) (a .0) at (a .2))
 
             sends : (g : ℕ) → g < j .steps → groups (hasBit steps) c g ≡ true
                 → Realizes j (mayIn may) (labelIn label) (suc q) (fibre (hasBit steps) c g) (fibre (hasBit people) (j .class (suc q)) (j .class (suc q) (f g))) (planIn after)
             sends g l i =
                 let x = m .along g l i in
                 let s = sent .done g (mask-has mask g i) (empty-lacks g) in
-                let w = s .realizes j
+                let y = s .realizes j
                 (part-next j levels may label crowd reach q steps people deep part (f g) (x .person) (x .leads) (x .inside) g (s .group) (s .mask))
                 (realized-masks j levels may label crowd reach q steps people deep part (f g) (x .person) (x .leads) (x .inside) g (s .group) (s .mask) (x .realized))
                 in
@@ -178,4 +174,4 @@ module _ {levels : ℕ} {may label crowd reach : List ℕ} {q steps people : ℕ
                 (λ t b h. mask-has (s .mask) t h)
                 (λ p b h. crowd-fibre j levels may label crowd reach q steps people deep part (f g) (x .person) (x .leads) (x .inside) p h)
                 (λ a t b d k h. refl)
-                (subst (λ (y : ℕ). Realizes j (mayIn may) (labelIn label) y (hasBit (s .group)) (hasBit (getD crowd (q * 64 + f g) 0)) (planIn after)) (add-one q) w)
+                (subst (λ (z : ℕ). Realizes j (mayIn may) (labelIn label) z (hasBit (s .group)) (hasBit (getD crowd (q * 64 + f g) 0)) (planIn after)) (add-one q) y)

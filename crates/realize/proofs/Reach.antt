@@ -19,9 +19,10 @@ use Rattle.workflow.specs.Problem.{Job}
 use Rattle.pattern.specs.Tables.{mayIn}
 use Rattle.pattern.specs.Realize.{leader}
 use Rattle.pattern.proofs.Leader.{leader-le}
-use Rattle.realize.specs.Masks.{Mask}
-use Rattle.realize.specs.Parts.{nameIn, Names, Reachable, Tabled, TablesOf, Classes}
-use Rattle.realize.proofs.Masks.{mask-has, mask-in, level-at}
+use Rattle.bits.specs.Set.{Mask}
+use Rattle.realize.specs.Parts.{nameIn, Names, Reachable, Indexed, TablesOf, Classes}
+use Rattle.bits.proofs.Masks.{mask-has, mask-in}
+use Rattle.realize.proofs.Masks.{level-at}
 
 -- ---- the classes of a set of people
 
@@ -100,7 +101,7 @@ module _ (people : ℕ) (class may : List ℕ) where
 
 -- ---- the tables of a job
 
-module _ {people levels : ℕ} {class may crowd reach : List ℕ} (w : Tabled people levels class may crowd reach) (j : Job) (crew : j .people ≡ people)
+module _ {people levels : ℕ} {class may crowd reach : List ℕ} (w : Indexed people levels class may crowd reach) (j : Job) (crew : j .people ≡ people)
     (classes : Classes j levels class) where
   -- the array has the names of classes
   name-class : (q p : ℕ) → q < j .levels → p < j .people → nameIn class q p ≡ j .class (suc q) p
@@ -123,13 +124,12 @@ module _ {people levels : ℕ} {class may crowd reach : List ℕ} (w : Tabled pe
         refining = classes .refining;
         few = classes .few;
         leads = λ q p d l. classes .leads (suc q) p (omega arith) d l;
-        crowd-has = λ q p d l.
-            subst (λ (x : ℕ). hasBit (getD crowd (q * 64 + x) 0) p ≡ true) (name-class q p d l)
-            (let k : q < levels = down q d in w .crowds .has q p k (omega arith) (omega (arith, classes .few)));
+        crowd-has = λ q v p d l m e.
+            w .crowds .has q v p (down q d) (omega arith) (omega arith) (name-class q p d m ∙ e ∙ sym (name-class q v d l));
         crowd-only = λ q v p d l h.
-            let o = w .crowds .only q v p (down q d) l h in
+            let o = w .crowds .only q v p (down q d) (omega arith) h in
             let k : p < j .people = omega (arith, o .0) in
-            (k, sym (name-class q p d k) ∙ o .2);
+            (k, sym (name-class q p d k) ∙ o .1 ∙ name-class q v d l);
         reach-has = λ q s p d l k m.
             let a : (q * 12 + s) / 12 ≡ q = omega arith in
             let b : (q * 12 + s) % 12 ≡ s = omega arith in

@@ -1,6 +1,7 @@
 -- The graph of groups and classes, filled in class by class and group by group. Assumes nothing.
 use mathlib.Core.Bool.{Bool, true, false}
 use mathlib.Core.List.{List}
+use mathlib.Core.Logic.{inl, inr}
 use mathlib.Core.Path.{_≡_, refl, sym, subst, ap, _∙_}
 use Prim.Native.Nat.{ℕ, suc, _+_, _*_, _≤_, _<_}
 use native.Mathlib.Omega.{arith}
@@ -14,16 +15,18 @@ use Rattle.bits.specs.Set.{Added, Removed, Lowest}
 use Rattle.bits.proofs.Below.{by-cases, true-false}
 use Rattle.bits.proofs.Counting.{and-of}
 use Rattle.bits.proofs.SetLaws.{and-bit, and-bit-left, and-bit-right, empty-lacks, zero-empty, has-below, part-le, added-has, added-other, removed-other, removed-was, removed-differs}
+use Rattle.matching.specs.Assignment.{Covers, inMask, suits, classAt}
 use Rattle.workflow.specs.Problem.{Job, May}
 use Rattle.pattern.specs.Pattern.{Label}
 use Rattle.pattern.specs.Tables.{mayIn, labelIn}
-use Rattle.pattern.specs.Realize.{Realized, fibre, groups}
+use Rattle.pattern.specs.Realize.{Realized, fibre, groups, leader}
 use Rattle.pattern.proofs.Realize.{realized-last}
+use Rattle.pattern.proofs.Leader.{leader-below, leader-class}
 use Rattle.pattern.proofs.Sets.{fibre-in, groups-in}
-use Rattle.realize.specs.Masks.{Mask}
+use Rattle.bits.specs.Set.{Mask}
 use Rattle.realize.specs.Parts.{Sized, TablesOf}
-use Rattle.realize.specs.Decision.{Decided, Candidates, Hosting, Hosted, Row, Linked, Linking}
-use Rattle.realize.proofs.Masks.{mask-in}
+use Rattle.realize.specs.Decision.{Decided, Candidates, Hosting, Hosted, Row, Linked, Covering}
+use Rattle.bits.proofs.Masks.{mask-in}
 
 -- a group has no more steps than the set that it is part of
 pub group-sized : {levels : ℕ} {may label crowd reach : List ℕ} {steps group : ℕ} → Sized levels may label crowd reach steps → (c : ℕ → ℕ) (g : ℕ)
@@ -160,7 +163,13 @@ able : (levels : ℕ) (may crowd reach : List ℕ) (q group people row : ℕ) �
 able levels may crowd reach q group people row few deep w j tables v s h k =
     let d : q < j .levels = omega (arith, tables .depth) in
     let o = tables .reach-only q s v d (has-below 12 group s few k) (w .each v s h k (empty-lacks s)) in
-    (o .0, o .1, subst (λ (x : ℕ). hasBit (getD crowd (q * 64 + x) 0) (o .0) ≡ true) (o .3) (tables .crowd-has q (o .0) d (o .1)), o .2)
+    let e : leader j (suc q) (o .0) ≡ v = sym (tables .leads q (o .0) d (o .1)) ∙ o .3 in (
+      o .0,
+      o .1,
+      subst (λ (x : ℕ). hasBit (getD crowd (q * 64 + x) 0) (o .0) ≡ true) e
+          (tables .crowd-has q (leader j (suc q) (o .0)) (o .0) d (leader-below j (suc q) (o .0) (o .1)) (o .1) (sym (leader-class j (suc q) (o .0) (o .1)))),
+      o .2,
+    )
 
 module _ {levels : ℕ} {may label crowd reach : List ℕ} {q group people row : ℕ} (few : group < 4096) (deep : q < levels)
     (w : Candidates reach q group people 0 row) where
@@ -231,29 +240,36 @@ linked-next {levels} {may} {label} {crowd} {reach} {q} {steps} {people} {heads} 
           (w .done k h (sym (removed-other gone k d) ∙ n)));
     }
 
-pub linking-all : {levels : ℕ} {may label crowd reach : List ℕ} {q steps people heads rest : ℕ} {edges : List ℕ}
-    → Linked levels may label crowd reach q steps people heads rest edges → rest ≡ 0 → Linking levels may label crowd reach q steps people heads edges true
-linking-all {levels} {may} {label} {crowd} {reach} {q} {steps} {people} {heads} {rest} {edges} w e =
-    record {
-      linked = λ t. subst (λ (x : ℕ). Linked levels may label crowd reach q steps people heads x edges) e w;
-      unhosted = λ t. true-false refl t;
-    }
+module _ {levels : ℕ} {may label crowd reach : List ℕ} {q steps people heads : ℕ}
+    (groups-mask : Mask (groups (hasBit steps) (labelIn label (suc q))) heads) {rest : ℕ} {edges : List ℕ}
+    (w : Linked levels may label crowd reach q steps people heads rest edges) where
+  -- each group has its row
+  pub covering-all : {found : Bool} {at : List ℕ} → rest ≡ 0 → Covers (inMask heads) (suits edges) found (classAt at)
+      → Covering levels may label crowd reach q steps people found at
+  covering-all e covers =
+      record {
+        heads = heads;
+        mask = groups-mask;
+        answer = inr (edges, subst (λ (x : ℕ). Linked levels may label crowd reach q steps people heads x edges) e w, covers);
+      }
 
--- a group whose row is empty
-pub linking-none : {levels : ℕ} {may label crowd reach : List ℕ} {q steps people heads rest : ℕ} {edges edges′ : List ℕ} {g group row : ℕ}
-    → Linked levels may label crowd reach q steps people heads rest edges → Lowest rest g
-    → Mask (fibre (hasBit steps) (labelIn label (suc q)) g) group → Hosted levels may label crowd reach q group people row → row ≡ 0
-    → Linking levels may label crowd reach q steps people heads edges′ false
-linking-none {levels} {may} {label} {crowd} {reach} {q} {steps} {people} {heads} {rest} {edges} {edges′} {g} {group} {row} w low mask hosted e =
-    record {
-      linked = λ t. true-false t refl;
-      unhosted = λ t. record {
-        who = g;
-        among = w .part g (low .has);
-        row = record {
-          group = group;
-          mask = mask;
-          hosted = subst (λ (x : ℕ). Hosted levels may label crowd reach q group people x) e hosted;
-        };
-      };
-    }
+  -- a group whose row is empty
+  pub covering-none : {g group row : ℕ} {at : List ℕ} → Lowest rest g → Mask (fibre (hasBit steps) (labelIn label (suc q)) g) group
+      → Hosted levels may label crowd reach q group people row → row ≡ 0 → Covering levels may label crowd reach q steps people false at
+  covering-none {g} {group} low mask hosted e =
+      record {
+        heads = heads;
+        mask = groups-mask;
+        answer = inl (
+          refl,
+          record {
+            who = g;
+            among = w .part g (low .has);
+            row = record {
+              group = group;
+              mask = mask;
+              hosted = subst (λ (x : ℕ). Hosted levels may label crowd reach q group people x) e hosted;
+            };
+          },
+        );
+      }

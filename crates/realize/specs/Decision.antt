@@ -1,15 +1,18 @@
 -- What the functions that decide promise, for every job whose tables they are given. Assumes nothing.
 use mathlib.Core.Bool.{Bool, true, false}
 use mathlib.Core.List.{List}
+use mathlib.Core.Logic.{_⊎_}
 use mathlib.Core.Path.{_≡_}
 use Prim.Native.Nat.{ℕ, suc, _+_, _*_}
 use lib.ListN.{length, getD}
 use Rattle.bits.specs.Word.{hasBit}
+use Rattle.matching.specs.Assignment.{Covers, inMask, suits, classAt}
 use Rattle.workflow.specs.Problem.{Job, May}
 use Rattle.pattern.specs.Tables.{mayIn, labelIn}
-use Rattle.pattern.specs.Realize.{Realized, fibre}
-use Rattle.realize.specs.Masks.{Mask, Says}
-use Rattle.realize.specs.Parts.{Part, Known}
+use Rattle.pattern.specs.Realize.{Realized, fibre, groups}
+use Rattle.bits.specs.Set.{Mask}
+use Rattle.bits.specs.Says.{Says}
+use Rattle.realize.specs.Parts.{Indexed, Part, Known}
 
 -- somebody of C may do step s
 abbrev pub Able : May → (ℕ → Bool) → ℕ → Type 0
@@ -64,12 +67,15 @@ pub record Unhosted (levels : ℕ) (may label crowd reach : List ℕ) (q steps p
   pub among : hasBit heads who ≡ true
   pub row : Row levels may label crowd reach q steps people who 0
 
--- the promise of `link`
-pub record Linking (levels : ℕ) (may label crowd reach : List ℕ) (q steps people heads : ℕ) (edges : List ℕ) (r : Bool) : Type 0 where
-  pub linked : r ≡ true → Linked levels may label crowd reach q steps people heads 0 edges
-  pub unhosted : r ≡ false → Unhosted levels may label crowd reach q steps people heads
+-- the promise of `cover`, where `heads` is the mask of the groups: one has no host, and nothing is found, or the answer is that of a matching
+-- along the rows
+pub record Covering (levels : ℕ) (may label crowd reach : List ℕ) (q steps people : ℕ) (found : Bool) (at : List ℕ) : Type 0 where
+  pub heads : ℕ
+  pub mask : Mask (groups (hasBit steps) (labelIn label (suc q))) heads
+  pub answer : ((found ≡ false) × Unhosted levels may label crowd reach q steps people heads)
+      ⊎ ((edges : List ℕ) × Linked levels may label crowd reach q steps people heads 0 edges × Covers (inMask heads) (suits edges) found (classAt at))
 
--- the promise of `realizable`
-pub record Realizable (people levels : ℕ) (class may label : List ℕ) (placed : ℕ) (r : Bool) : Type 0 where
-  pub says : (j : Job) → Known j people levels class label placed
+-- the promise of `realizable`, for all classes whose tables these are
+pub record Realizable (people levels : ℕ) (may label crowd reach : List ℕ) (placed : ℕ) (r : Bool) : Type 0 where
+  pub says : (class : List ℕ) → Indexed people levels class may crowd reach → (j : Job) → Known j people levels class label placed
       → Says r (Realized j (mayIn may) (labelIn label) 0 (hasBit placed) (λ p. true))

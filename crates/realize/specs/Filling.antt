@@ -8,8 +8,8 @@ use Rattle.bits.specs.Word.{hasBit}
 use Rattle.workflow.specs.Problem.{Job, May}
 use Rattle.pattern.specs.Tables.{mayIn, labelIn, planIn}
 use Rattle.pattern.specs.Realize.{Realized, Realizes, fibre}
-use Rattle.realize.specs.Masks.{Mask}
-use Rattle.realize.specs.Parts.{Part, Known}
+use Rattle.bits.specs.Set.{Mask}
+use Rattle.realize.specs.Parts.{Indexed, Part, Known}
 use Rattle.realize.specs.Decision.{Able}
 
 -- the plan has as many steps as before, and those outside `steps` have the people that they had
@@ -51,8 +51,8 @@ pub record Settled (heads : ℕ) (at : List ℕ) : Type 0 where
   pub below : (g : ℕ) → hasBit heads g ≡ true → getD at g 0 < 64
 
 -- the promise of `realize`: where the pattern can be realized, the plan does it
-pub record Realizing (people levels : ℕ) (class may label : List ℕ) (placed : ℕ) (before after : List ℕ) : Type 0 where
+pub record Realizing (people levels : ℕ) (may label crowd reach : List ℕ) (placed : ℕ) (before after : List ℕ) : Type 0 where
   pub kept : Kept placed before after
-  pub realizes : (j : Job) → Known j people levels class label placed
+  pub realizes : (class : List ℕ) → Indexed people levels class may crowd reach → (j : Job) → Known j people levels class label placed
       → Realized j (mayIn may) (labelIn label) 0 (hasBit placed) (λ p. true)
       → Realizes j (mayIn may) (labelIn label) 0 (hasBit placed) (λ p. true) (planIn after)

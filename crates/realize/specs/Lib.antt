@@ -1,4 +1,3 @@
-pub mod Masks
 pub mod Parts
 pub mod Decision
 pub mod Filling

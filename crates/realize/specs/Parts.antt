@@ -9,7 +9,7 @@ use Rattle.workflow.specs.Problem.{Job}
 use Rattle.pattern.specs.Pattern.{Label, Labelled, Consistent, Refining, Pattern}
 use Rattle.pattern.specs.Tables.{classIn, mayIn, labelIn}
 use Rattle.pattern.specs.Realize.{Whole, leader}
-use Rattle.narrow.specs.Domains.{Gathered}
+use Rattle.levels.specs.Tabled.{Gathered}
 
 -- the arrays have their sizes, and the steps are numbered below 12
 pub record Sized (levels : ℕ) (may label crowd reach : List ℕ) (steps : ℕ) : Type 0 where
@@ -56,9 +56,9 @@ pub record Reachable (people : ℕ) (class may : List ℕ) (x : ℕ) (reach : Li
   pub only : (y v : ℕ) → y < x → hasBit (getD reach y 0) v ≡ true
       → (p : ℕ) × (p < people) × (mayIn may (y % 12) p ≡ true) × (nameIn class (y / 12) p ≡ v)
 
--- the tables made once for a search: the people of each class at its name, and the classes with somebody for each step
-pub record Tabled (people levels : ℕ) (class may crowd reach : List ℕ) : Type 0 where
-  pub crowds : Gathered people levels class (levels * 64) crowd
+-- the tables are those of these classes: the people of each person's class, and the classes with somebody for each step
+pub record Indexed (people levels : ℕ) (class may crowd reach : List ℕ) : Type 0 where
+  pub crowds : Gathered people levels class crowd
   pub reaches : Reachable people class may (levels * 12) reach
 
 -- they are the tables of the job
@@ -67,8 +67,9 @@ pub record TablesOf (j : Job) (levels : ℕ) (may crowd reach : List ℕ) : Type
   pub refining : Refining j
   pub few : j .people ≤ 64
   pub leads : (q p : ℕ) → q < j .levels → p < j .people → j .class (suc q) p ≡ leader j (suc q) p
-  pub crowd-has : (q p : ℕ) → q < j .levels → p < j .people → hasBit (getD crowd (q * 64 + j .class (suc q) p) 0) p ≡ true
-  pub crowd-only : (q v p : ℕ) → q < j .levels → v < 64 → hasBit (getD crowd (q * 64 + v) 0) p ≡ true → (p < j .people) × (j .class (suc q) p ≡ v)
+  pub crowd-has : (q v p : ℕ) → q < j .levels → v < j .people → p < j .people → j .class (suc q) p ≡ j .class (suc q) v → hasBit (getD crowd (q * 64 + v) 0) p ≡ true
+  pub crowd-only : (q v p : ℕ) → q < j .levels → v < j .people → hasBit (getD crowd (q * 64 + v) 0) p ≡ true
+      → (p < j .people) × (j .class (suc q) p ≡ j .class (suc q) v)
   pub reach-has : (q s p : ℕ) → q < j .levels → s < 12 → p < j .people → mayIn may s p ≡ true
       → hasBit (getD reach (q * 12 + s) 0) (j .class (suc q) p) ≡ true
   pub reach-only : (q s v : ℕ) → q < j .levels → s < 12 → hasBit (getD reach (q * 12 + s) 0) v ≡ true

@@ -4,15 +4,16 @@ use crate::parts::groups_of;
 use crate::parts::members;
 use bits::set;
 use bits::small;
+use matching::Cover;
 use matching::assign;
 ghost use mathlib.Core.Path.{_≡_};
 ghost use Prim.Native.Nat.{_<_};
 ghost use lib.ListN.{length};
 ghost use Rattle.bits.specs.Word.{hasBit};
 ghost use Rattle.pattern.specs.Tables.{mayIn};
-ghost use Rattle.realize.specs.Masks.{Says};
+ghost use Rattle.bits.specs.Says.{Says};
 ghost use Rattle.realize.specs.Parts.{Sized};
-ghost use Rattle.realize.specs.Decision.{Staffing, Decided, Candidates, Hosted, Linking};
+ghost use Rattle.realize.specs.Decision.{Staffing, Decided, Candidates, Hosted, Covering};
 
 // Whether each step of `steps` has somebody in `people`.
 fn staffed(may: &[u64; 12], steps: u16, people: u64) -> bool
@@ -90,9 +91,9 @@ fn hosts(
     found
 }
 
-// Sets the edges of each group of level `q` + 1 inside `steps`, the classes that can host it, unless
-// some group has none.
-pub fn link(
+// A class for each group of level `q` + 1 inside `steps`, among those that can host it and none twice,
+// where there are enough. A group without a host ends the search.
+pub fn cover(
     levels: usize,
     may: &[u64; 12],
     label: &[u8; 36],
@@ -101,12 +102,12 @@ pub fn link(
     q: usize,
     steps: u16,
     people: u64,
-    heads: u16,
-    edges: &mut [u64; 12],
-) -> bool
-    requires { ⌜ Sized levels (now may) (now label) (now crowd) (now reach) steps × (q < levels) × (length (now edges) ≡ 12) × (heads < 4096) ⌝ }
-    ensures { λ r. ⌜ Linking levels (now (may .entry)) (now (label .entry)) (now (crowd .entry)) (now (reach .entry)) q steps people heads (now (edges .exit)) r ⌝ }
+) -> Cover
+    requires { ⌜ Sized levels (now may) (now label) (now crowd) (now reach) steps × (q < levels) ⌝ }
+    ensures { λ r. ⌜ Covering levels (now (may .entry)) (now (label .entry)) (now (crowd .entry)) (now (reach .entry)) q steps people (r .found) (r .at) ⌝ }
 {
+    let heads = groups_of(label, q, steps);
+    let mut edges = [0u64; 12];
     let mut rest = heads;
     while rest != 0 {
         let g = small::lowest(rest);
@@ -114,11 +115,14 @@ pub fn link(
         let group = members(label, q, g as u8, steps);
         let row = hosts(levels, may, label, crowd, reach, q, g, group, people);
         if row == 0 {
-            return false;
+            return Cover {
+                found: false,
+                at: [0; 12],
+            };
         }
         edges[g] = row;
     }
-    true
+    assign(&edges, heads)
 }
 
 // Whether the steps can go to the people, with the labels of the levels below `q`.
@@ -138,22 +142,6 @@ pub fn decide(
     if levels <= q {
         return staffed(may, steps, people);
     }
-    let heads = groups_of(label, q, steps);
-    let mut edges = [0u64; 12];
-    if !link(
-        levels,
-        may,
-        label,
-        crowd,
-        reach,
-        q,
-        steps,
-        people,
-        heads,
-        &mut edges,
-    ) {
-        return false;
-    }
-    let cover = assign(&edges, heads);
+    let cover = cover(levels, may, label, crowd, reach, q, steps, people);
     cover.found
 }

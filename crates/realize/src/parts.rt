@@ -1,24 +1,12 @@
-// All the people of a job, and the groups of a set of steps.
+// The groups of a set of steps.
 use bits::small;
 ghost use mathlib.Core.Path.{_≡_};
-ghost use Prim.Native.Nat.{suc, _<_, _≤_};
-ghost use lib.Dec.{ltb};
+ghost use Prim.Native.Nat.{suc, _<_};
 ghost use lib.ListN.{length};
 ghost use Rattle.bits.specs.Word.{hasBit};
 ghost use Rattle.pattern.specs.Tables.{labelIn};
 ghost use Rattle.pattern.specs.Realize.{fibre, groups};
-ghost use Rattle.realize.specs.Masks.{Mask};
-
-// All of so many people.
-pub fn everybody(people: usize) -> u64
-    requires { ⌜ people ≤ 64 ⌝ }
-    ensures { λ r. ⌜ Mask (λ p. ltb p people) r ⌝ }
-{
-    if people == 64 {
-        return 0xffff_ffff_ffff_ffff;
-    }
-    (1 << people) - 1
-}
+ghost use Rattle.bits.specs.Set.{Mask};
 
 // Those of `steps` that have the label `g` at level `q` + 1.
 pub fn members(label: &[u8; 36], q: usize, g: u8, steps: u16) -> u16

@@ -1,10 +1,9 @@
 // A plan for a set of steps that can go to a set of people, written along the matchings.
-use crate::decision::link;
+use crate::decision::cover;
 use crate::parts::groups_of;
 use crate::parts::members;
 use bits::set;
 use bits::small;
-use matching::assign;
 ghost use mathlib.Core.Path.{_≡_};
 ghost use Prim.Native.Nat.{_<_};
 ghost use lib.ListN.{length};
@@ -85,26 +84,11 @@ pub fn fill(
         staff(may, steps, people, plan);
         return;
     }
-    let heads = groups_of(label, q, steps);
-    let mut edges = [0u64; 12];
-    if !link(
-        levels,
-        may,
-        label,
-        crowd,
-        reach,
-        q,
-        steps,
-        people,
-        heads,
-        &mut edges,
-    ) {
-        return;
-    }
-    let cover = assign(&edges, heads);
+    let cover = cover(levels, may, label, crowd, reach, q, steps, people);
     if !cover.found {
         return;
     }
+    let heads = groups_of(label, q, steps);
     let at = cover.at;
     send(levels, may, label, crowd, reach, q, steps, heads, &at, plan);
 }

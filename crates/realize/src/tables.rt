@@ -1,5 +1,4 @@
 // The classes with somebody for each step, made once for a search.
-use crate::parts::everybody;
 use bits::set;
 ghost use mathlib.Core.Path.{_≡_};
 ghost use Prim.Native.Nat.{_*_, _≤_, _<_};
@@ -26,7 +25,7 @@ pub fn reaches(people: usize, levels: usize, class: &[u8; 192], may: &[u64; 12])
     requires { ⌜ (people ≤ 64) × (levels ≤ 3) × (length (now class) ≡ 192) × (length (now may) ≡ 12) ⌝ }
     ensures { λ r. ⌜ Reachable people (now (class .entry)) (now (may .entry)) (levels * 12) r ⌝ }
 {
-    let all = everybody(people);
+    let all = set::below(people);
     let mut reach = [0u64; 36];
     for x in 0..levels * 12 {
         reach[x] = names(class, x / 12, may[x % 12] & all);

@@ -1,162 +1,167 @@
 -- What a rule says of another level. Assumes nothing.
 use mathlib.Core.List.{List}
-use mathlib.Core.Path.{_≡_, refl, ap, _∙_}
-use Prim.Native.Nat.{ℕ, zero, suc, _≤_, _<_}
+use mathlib.Core.Path.{_≡_, sym, subst, ap, _∙_}
+use Prim.Native.Nat.{ℕ, _≤_, _<_}
 use native.Mathlib.Omega.{arith}
+use lib.Count.{ones}
+use lib.Dec.{eqb}
 use lib.ListN.{getD}
-use borrow.Author.Tests.{ne-eqb}
+use borrow.Author.Tests.{eqb-true, eqb-false}
 use Rattle.bits.specs.Below.{count}
 use Rattle.bits.specs.Word.{hasBit}
+use Rattle.bits.proofs.Below.{by-cases}
 use Rattle.bits.proofs.Counting.{count-le}
-use Rattle.workflow.specs.Problem.{RuleOk, Fits, Job, Asks}
-use Rattle.workflow.proofs.Counts.{distinct-le-scope}
-use Rattle.pattern.specs.Tables.{kindIn, classIn, jobIn}
+use Rattle.bits.proofs.Ones.{ones-bits}
+use Rattle.workflow.specs.Problem.{Job, Plan}
+use Rattle.workflow.proofs.Counts.{distinct-le-scope, distinct-le}
+use Rattle.pattern.specs.declared.Size.{Size}
+use Rattle.pattern.specs.Given.{Given}
+use Rattle.pattern.specs.Rule.{levelIn, leastIn, mostIn, scopeIn, Packed}
+use Rattle.pattern.specs.Tables.{classIn, jobIn}
 use Rattle.pattern.proofs.Leader.{leader-below, leader-class}
 use Rattle.pattern.proofs.Levels.{refining-up}
-use Rattle.levels.specs.Given.{Given}
 use Rattle.relax.specs.Bound.{Nests, numbered, Tally, together, Needs}
-use Rattle.relax.specs.Relaxed.{Carried, upperIn, lowerIn, Follows}
-use Rattle.relax.proofs.Tallying.{together-from}
+use Rattle.relax.specs.Relaxed.{Carriable, countAt, Follows}
 use Rattle.relax.proofs.Bounding.{bounded, needed}
-use Rattle.relax.proofs.Coarser.{wide-scope, some-class, asks-carried}
+use Rattle.relax.proofs.Coarser.{some-class, coarser}
 
--- ---- limits in the other direction
-
--- a rule that does not hold at a finer level as it is has an upper limit
-module _ (level q : ℕ) (finer : level < q) where
-  upper-asks : (kind limit n : ℕ) → (Carried (kindIn kind) level q → ⊥) → Asks (kindIn kind) limit n → n ≤ upperIn kind limit
-  upper-asks zero limit n d a = omega arith
-  upper-asks (suc zero) limit n d a = omega arith
-  upper-asks (suc (suc zero)) limit n d a = absurd (d (omega arith))
-  upper-asks (suc (suc (suc zero))) limit n d a = a
-  upper-asks (suc (suc (suc (suc k)))) limit n d a = absurd (d (omega arith))
-
-  upper-fits : (kind limit size : ℕ) → (Carried (kindIn kind) level q → ⊥) → Fits (kindIn kind) limit size
-      → (1 ≤ upperIn kind limit) × (upperIn kind limit ≤ size)
-  upper-fits zero limit size d f = (omega arith, omega arith)
-  upper-fits (suc zero) limit size d f = (omega arith, omega arith)
-  upper-fits (suc (suc zero)) limit size d f = absurd (d (omega arith))
-  upper-fits (suc (suc (suc zero))) limit size d f = (f .1, f .2)
-  upper-fits (suc (suc (suc (suc k)))) limit size d f = absurd (d (omega arith))
-
-lower-least : (k limit : ℕ) → lowerIn (suc (suc (suc (suc k)))) limit ≡ limit
-lower-least k limit = rw (ne-eqb (suc (suc (suc (suc k)))) 2 (λ e. omega arith)) refl
-
--- and one that does not hold at a coarser level a lower limit
-module _ (level q : ℕ) (coarser : q ≤ level) where
-  lower-asks : (kind limit n : ℕ) → (Carried (kindIn kind) level q → ⊥) → Asks (kindIn kind) limit n → lowerIn kind limit ≤ n
-  lower-asks zero limit n d a = absurd (d coarser)
-  lower-asks (suc zero) limit n d a = absurd (d coarser)
-  lower-asks (suc (suc zero)) limit n d a = omega arith
-  lower-asks (suc (suc (suc zero))) limit n d a = absurd (d coarser)
-  lower-asks (suc (suc (suc (suc k)))) limit n d a = rw (lower-least k limit) a
-
-  lower-fits : (kind limit size : ℕ) → (Carried (kindIn kind) level q → ⊥) → Fits (kindIn kind) limit size
-      → (1 ≤ lowerIn kind limit) × (lowerIn kind limit ≤ size)
-  lower-fits zero limit size d f = absurd (d coarser)
-  lower-fits (suc zero) limit size d f = absurd (d coarser)
-  lower-fits (suc (suc zero)) limit size d f = (omega arith, omega arith)
-  lower-fits (suc (suc (suc zero))) limit size d f = absurd (d coarser)
-  lower-fits (suc (suc (suc (suc k)))) limit size d f = rw (lower-least k limit) (f .1, f .2)
-
--- ---- the rule of a job
-
-module _ (steps people levels rules : ℕ) (class kind level limit scope : List ℕ) (given : Given steps people levels rules class kind level limit scope) where
+module _ (size : Size) (class rule : List ℕ) (given : Given size class rule) where
   abbrev whole : Job
-  whole = jobIn steps people levels class rules kind level limit scope
+  whole = jobIn size class rule
 
   -- the classes of a level lie in those of a coarser one
-  pub nests : (a b : ℕ) → 1 ≤ a → a ≤ b → b ≤ levels → Nests people (classIn class a) (classIn class b)
+  nests : (a b : ℕ) → 1 ≤ a → a ≤ b → b ≤ size .levels → Nests (size .people) (classIn class a) (classIn class b)
   nests a b from l to =
       record {
         coarse-below = λ p m. rw (given .leaders a p from (omega arith) m) (leader-below whole a p m);
         fine-below = below;
         own = own;
-        up = λ p m. refining-up whole (given .searchable .refining) a b from l to (classIn class b p) p (below p m) m (own p m);
+        up = λ p m. refining-up whole (given .refining) a b from l to (classIn class b p) p (below p m) m (own p m);
       }
     where
-      below : (p : ℕ) → p < people → classIn class b p < people
+      below : (p : ℕ) → p < size .people → classIn class b p < size .people
       below p m = rw (given .leaders b p (omega arith) to m) (leader-below whole b p m)
 
-      own : (p : ℕ) → p < people → classIn class b (classIn class b p) ≡ classIn class b p
+      own : (p : ℕ) → p < size .people → classIn class b (classIn class b p) ≡ classIn class b p
       own p m = ap (classIn class b) (given .leaders b p (omega arith) to m) ∙ leader-class whole b p m
 
-  module _ (i : ℕ) (l : i < rules) (q : ℕ) (from : 1 ≤ q) (to : q ≤ levels) where
-    abbrev Says : ℕ → ℕ → Type 0
-    Says = Follows steps people class q (getD kind i 0) (getD level i 0) (getD limit i 0) (getD scope i 0)
+  -- each rule of a job can be carried
+  pub carriable : (i : ℕ) → i < size .rules → (q : ℕ) → 1 ≤ q → q ≤ size .levels → Carriable size class (getD rule i 0) q
+  carriable i l q from to =
+      record {
+        few-steps = given .ruled .few-steps;
+        few-people = given .few-people;
+        few-levels = given .ruled .few-levels;
+        classes = given .classes;
+        nests = nests;
+        scope = given .ruled .scopes i l;
+        rule-ok = given .ruled .rule-ok i l;
+        from = from;
+        to = to;
+      }
 
-    abbrev size : ℕ
-    size = count steps (hasBit (getD scope i 0))
+module _ {size : Size} {class : List ℕ} {r q : ℕ} (w : Carriable size class r q) where
+  -- the level of a rule fits a number
+  pub level-few : q < 16
+  level-few = omega (arith, w .to, w .few-levels)
 
-    pub rule-ok : RuleOk steps levels (whole .rule i)
-    rule-ok = given .searchable .rule-ok i l
+  pub scope-few : ones (scopeIn r) ≤ 12
+  scope-few = omega (arith, ones-bits (size .steps) (scopeIn r) (w .scope), count-le (size .steps) (hasBit (scopeIn r)), w .few-steps)
 
-    wide : 2 ≤ size
-    wide = wide-scope (kindIn (getD kind i 0)) (getD limit i 0) size (rule-ok .fits)
+  -- a finer level has as many classes at least, and no more than the scope has steps
+  module _ (finer : levelIn r ≤ q) where
+    nested : Nests (size .people) (classIn class (levelIn r)) (classIn class q)
+    nested = w .nests (levelIn r) q (w .rule-ok .from) finer (w .to)
 
-    small : size ≤ 12
-    small = let a = count-le steps (hasBit (getD scope i 0)) in omega (arith, given .few-steps)
+    at-least : (π : Plan) → ((s : ℕ) → s < size .steps → π s < size .people) → leastIn r ≤ countAt size class r (levelIn r) π → leastIn r ≤ countAt size class r q π
+    at-least π within l =
+        let c = coarser (size .steps) (size .people) (hasBit (scopeIn r)) _ _ nested π within in
+        omega arith
 
-    -- as it is
-    pub follows-carried : Carried (kindIn (getD kind i 0)) (getD level i 0) q → Says (getD kind i 0) (getD limit i 0)
-    follows-carried c =
+    pub follows-unlimited : {s : ℕ} → ones (scopeIn r) ≤ mostIn r → Packed q (leastIn r) (mostIn r) (scopeIn r) s → Follows size class q r s
+    follows-unlimited {s} l p =
         record {
-          fits = rule-ok .fits;
+          level = p .its-level;
+          scope = p .its-scope;
+          reachable = omega (arith, p .its-least, w .rule-ok .reachable);
+          bounded = omega (arith, p .its-most, w .rule-ok .bounded);
           met = λ π within m.
-              asks-carried whole (given .searchable .refining) (hasBit (getD scope i 0)) π within (kindIn (getD kind i 0)) (getD limit i 0) (getD level i 0) q
-              (rule-ok .from) (rule-ok .to) from to (rule-ok .fits) c m;
+              let c = distinct-le-scope (size .steps) (hasBit (scopeIn r)) (λ t. classIn class q (π t)) in
+              let e = ones-bits (size .steps) (scopeIn r) (w .scope) in
+              let a = at-least π within (m .least) in
+              record { least = omega (arith, p .its-least); most = omega (arith, p .its-most) };
         }
 
-    -- every plan has at most as many classes as the scope has steps
-    pub follows-idle : (k : ℕ) → k ≡ size → Says 3 k
-    follows-idle k e =
+    module _ {ranks : List ℕ} (tally : Tally (size .people) (numbered (classIn class (levelIn r)) (classIn class q)) ranks) {s : ℕ} where
+      pub follows-limited : together ranks (mostIn r) 63 < size .steps → Packed q (leastIn r) (together ranks (mostIn r) 63) (scopeIn r) s → Follows size class q r s
+      follows-limited l p =
+          record {
+            level = p .its-level;
+            scope = p .its-scope;
+            reachable = omega (arith, p .its-least, w .rule-ok .reachable);
+            bounded = omega (arith, p .its-most);
+            met = λ π within m.
+                let b = bounded (size .people) (w .few-people) _ _ nested (size .steps) (hasBit (scopeIn r)) π within ranks tally (mostIn r) (m .most) in
+                let a = at-least π within (m .least) in
+                record { least = omega (arith, p .its-least); most = omega (arith, p .its-most) };
+          }
+
+      pub follows-all : Packed q (leastIn r) (size .steps) (scopeIn r) s → Follows size class q r s
+      follows-all p =
+          record {
+            level = p .its-level;
+            scope = p .its-scope;
+            reachable = omega (arith, p .its-least, w .rule-ok .reachable);
+            bounded = omega (arith, p .its-most);
+            met = λ π within m.
+                let b = distinct-le (size .steps) (hasBit (scopeIn r)) (λ t. classIn class q (π t)) in
+                let a = at-least π within (m .least) in
+                record { least = omega (arith, p .its-least); most = omega (arith, p .its-most) };
+          }
+
+  -- a coarser level has as many classes at most, and enough of them for those of the rule's own level
+  module _ (below : q ≤ levelIn r) where
+    outer : Nests (size .people) (classIn class q) (classIn class (levelIn r))
+    outer = w .nests q (levelIn r) (w .from) below (w .rule-ok .to)
+
+    at-most : (π : Plan) → ((s : ℕ) → s < size .steps → π s < size .people) → countAt size class r (levelIn r) π ≤ mostIn r → countAt size class r q π ≤ mostIn r
+    at-most π within l =
+        let c = coarser (size .steps) (size .people) (hasBit (scopeIn r)) _ _ outer π within in
+        omega arith
+
+    pub follows-one : {s : ℕ} → leastIn r < 2 → Packed q (leastIn r) (mostIn r) (scopeIn r) s → Follows size class q r s
+    follows-one {s} l p =
         record {
-          fits = (wide, omega (arith, wide), omega arith);
-          met = λ π within m. rw e (distinct-le-scope steps (hasBit (getD scope i 0)) (λ s. classIn class q (π s)));
+          level = p .its-level;
+          scope = p .its-scope;
+          reachable = omega (arith, p .its-least, w .rule-ok .reachable);
+          bounded = omega (arith, p .its-most, w .rule-ok .bounded);
+          met = λ π within m.
+              let a = at-most π within (m .most) in
+              record { least = subst (λ (k : ℕ). k ≤ countAt size class r q π) (sym (p .its-least)) (some π); most = omega (arith, p .its-most) };
         }
+      where
+        some : (π : Plan) → leastIn r ≤ countAt size class r q π
+        some π =
+            by-cases (eqb (leastIn r) 0)
+            (λ e. let z : leastIn r ≡ 0 = eqb-true _ _ e in omega arith)
+            (λ e.
+            let z : leastIn r ≡ 0 → ⊥ = eqb-false _ _ e in
+            let k = some-class (size .steps) (hasBit (scopeIn r)) (λ t. classIn class q (π t)) (omega (arith, w .rule-ok .reachable)) in
+            omega arith)
 
-    module _ (lost : Carried (kindIn (getD kind i 0)) (getD level i 0) q → ⊥) where
-      -- an upper limit at a finer level
-      module _ (finer : getD level i 0 < q) (u : ℕ) (upper : u ≡ upperIn (getD kind i 0) (getD limit i 0)) where
-        upper-some : 1 ≤ u
-        upper-some = rw upper (upper-fits (getD level i 0) q finer (getD kind i 0) (getD limit i 0) size lost (rule-ok .fits) .0)
-
-        pub upper-few : u ≤ 12
-        upper-few =
-            let a : u ≤ size = rw upper (upper-fits (getD level i 0) q finer (getD kind i 0) (getD limit i 0) size lost (rule-ok .fits) .1) in
-            omega (arith, small)
-
-        pub follows-finer : (ranks : List ℕ) → Tally people (numbered (classIn class (getD level i 0)) (classIn class q)) ranks
-            → (b n : ℕ) → b ≡ together ranks u 63 → n ≡ size → b < n → Says 3 b
-        follows-finer ranks w b n e f few =
-            record {
-              fits = (wide, omega (arith, together-from ranks u 63, upper-some), omega arith);
-              met = λ π within m.
-                  omega (
-                    arith,
-                    bounded people (given .few-people) _ _ (nests (getD level i 0) q (rule-ok .from) (omega arith) to) steps (hasBit (getD scope i 0)) π within ranks w u
-                        (rw upper (upper-asks (getD level i 0) q finer (getD kind i 0) (getD limit i 0) _ lost m)),
-                  );
-            }
-
-      -- a lower limit at a coarser level
-      module _ (coarser : q ≤ getD level i 0) (k : ℕ) (lower : k ≡ lowerIn (getD kind i 0) (getD limit i 0)) where
-        pub lower-some : 1 ≤ k
-        lower-some = rw lower (lower-fits (getD level i 0) q coarser (getD kind i 0) (getD limit i 0) size lost (rule-ok .fits) .0)
-
-        lower-size : k ≤ size
-        lower-size = rw lower (lower-fits (getD level i 0) q coarser (getD kind i 0) (getD limit i 0) size lost (rule-ok .fits) .1)
-
-        pub lower-few : k ≤ 12
-        lower-few = omega (arith, lower-size, small)
-
-        pub follows-coarser : (ranks : List ℕ) → Tally people (numbered (classIn class q) (classIn class (getD level i 0))) ranks
-            → (r : ℕ) → Needs ranks k r → Says 4 r
-        follows-coarser ranks w r n =
-            record {
-              fits = (wide, n .from, omega (arith, n .to, lower-size));
-              met = λ π within m.
-                  needed people (given .few-people) _ _ (nests q (getD level i 0) from coarser (rule-ok .to)) steps (hasBit (getD scope i 0)) π within ranks w k r n
-                  (some-class steps (hasBit (getD scope i 0)) (λ s. classIn class q (π s)) wide)
-                  (rw lower (lower-asks (getD level i 0) q coarser (getD kind i 0) (getD limit i 0) _ lost m));
-            }
+    pub follows-several : {ranks : List ℕ} {m s : ℕ} → Tally (size .people) (numbered (classIn class q) (classIn class (levelIn r))) ranks → 1 ≤ leastIn r
+        → Needs ranks (leastIn r) m → Packed q m (mostIn r) (scopeIn r) s → Follows size class q r s
+    follows-several {ranks} {m} {s} tally l n p =
+        record {
+          level = p .its-level;
+          scope = p .its-scope;
+          reachable = omega (arith, p .its-least, n .to, w .rule-ok .reachable);
+          bounded = omega (arith, p .its-most, w .rule-ok .bounded);
+          met = λ π within k.
+              let a = at-most π within (k .most) in
+              let b = needed (size .people) (w .few-people) _ _ outer (size .steps) (hasBit (scopeIn r)) π within ranks tally (leastIn r) m n
+              (some-class (size .steps) (hasBit (scopeIn r)) _ (omega (arith, w .rule-ok .reachable))) (k .least)
+              in
+              record { least = omega (arith, p .its-least); most = omega (arith, p .its-most) };
+        }

@@ -1,48 +1,67 @@
 -- The law of relaxation: every valid plan of a job is a valid plan of the job relaxed to a level. Assumes nothing.
 use mathlib.Core.List.{List}
-use mathlib.Core.Path.{_≡_}
-use Prim.Native.Nat.{ℕ, _≤_, _<_}
-use Rattle.workflow.specs.Problem.{RuleOk, Job, Plan, Met}
+use mathlib.Core.Path.{_≡_, sym, subst, ap}
+use Prim.Native.Nat.{ℕ, _^_, _≤_, _<_}
+use native.Mathlib.Omega.{arith}
+use lib.ListN.{getD}
+use Rattle.bits.specs.Below.{count}
+use Rattle.bits.specs.Word.{hasBit}
+use Rattle.workflow.specs.Problem.{RuleOk, Job, Plan, Met, InBounds, distinct}
+use Rattle.pattern.specs.declared.Size.{Size}
+use Rattle.pattern.specs.Given.{Ruled, Given}
 use Rattle.pattern.specs.Realize.{leader}
+use Rattle.pattern.specs.Rule.{levelIn, scopeIn, unpacked}
 use Rattle.pattern.specs.Tables.{classIn, jobIn}
-use Rattle.levels.specs.Given.{Given}
 use Rattle.relax.specs.Relaxed.{Carries, Relaxes}
 
-module _ (steps people levels rules : ℕ) (class kind level limit scope : List ℕ) (given : Given steps people levels rules class kind level limit scope)
-    (q : ℕ) (from : 1 ≤ q) (to : q ≤ levels) (kind′ level′ limit′ : List ℕ)
-    (w : Carries steps people rules class kind level limit scope q kind′ level′ limit′) where
+module _ (size : Size) (class rule : List ℕ) (given : Given size class rule) (q : ℕ) (from : 1 ≤ q) (to : q ≤ size .levels) (rule′ : List ℕ)
+    (w : Carries size (size .rules) class rule q rule′) where
   abbrev whole : Job
-  whole = jobIn steps people levels class rules kind level limit scope
+  whole = jobIn size class rule
 
   abbrev relaxed : Job
-  relaxed = jobIn steps people levels class rules kind′ level′ limit′ scope
+  relaxed = jobIn size class rule′
 
-  relaxed-ok : (i : ℕ) → i < rules → RuleOk steps levels (relaxed .rule i)
-  relaxed-ok i l = record { from = rw (w .at i l) from; to = rw (w .at i l) to; fits = w .follows i l .fits }
+  relaxed-ok : (i : ℕ) → i < size .rules → RuleOk (size .steps) (size .levels) (relaxed .rule i)
+  relaxed-ok i l =
+      let f = w .follows i l in
+      let e : count (size .steps) (hasBit (scopeIn (getD rule′ i 0))) ≡ count (size .steps) (hasBit (scopeIn (getD rule i 0)))
+      = ap (λ (m : ℕ). count (size .steps) (hasBit m)) (f .scope)
+      in
+      record { from = omega (arith, f .level); to = omega (arith, f .level); reachable = omega (arith, f .reachable); bounded = f .bounded }
 
-  relaxed-met : (i : ℕ) → i < rules → (π : Plan) → ((s : ℕ) → s < steps → π s < people) → Met whole (whole .rule i) π → Met relaxed (relaxed .rule i) π
-  relaxed-met i l π within m = rw (w .at i l) (w .follows i l .met π within m)
+  relaxed-met : (i : ℕ) → i < size .rules → (π : Plan) → ((s : ℕ) → s < size .steps → π s < size .people) → Met whole (whole .rule i) π → Met relaxed (relaxed .rule i) π
+  relaxed-met i l π within m =
+      let f = w .follows i l in
+      subst (λ (k : ℕ). InBounds (unpacked (getD rule′ i 0)) (distinct (size .steps) (hasBit k) (λ s. classIn class (levelIn (getD rule′ i 0)) (π s)))) (sym (f .scope))
+      (subst (λ (k : ℕ). InBounds (unpacked (getD rule′ i 0)) (distinct (size .steps) (hasBit (scopeIn (getD rule i 0))) (λ s. classIn class k (π s)))) (sym (f .level))
+      (f .met π within m))
 
   -- names of classes do not depend on rules
-  leaders-now : (r p : ℕ) → 1 ≤ r → r ≤ levels → p < people → classIn class r p ≡ leader relaxed r p
+  leaders-now : (r p : ℕ) → 1 ≤ r → r ≤ size .levels → p < size .people → classIn class r p ≡ leader relaxed r p
   unfolding leader
   leaders-now r p a b l = given .leaders r p a b l
 
+  ruled-now : Ruled size rule′
+  ruled-now =
+      record {
+        few-steps = given .ruled .few-steps;
+        few-levels = given .ruled .few-levels;
+        few-rules = given .ruled .few-rules;
+        sized = w .sized;
+        scopes = λ i l. subst (λ (m : ℕ). m < 2 ^ size .steps) (sym (w .follows i l .scope)) (given .ruled .scopes i l);
+        rule-ok = relaxed-ok;
+      }
+
   -- the law of relaxation
-  pub relaxes : Relaxes steps people levels rules class kind level limit scope kind′ level′ limit′
+  pub relaxes : Relaxes size class rule rule′
   relaxes =
       record {
         given = record {
-          few-steps = given .few-steps;
+          ruled = ruled-now;
           few-people = given .few-people;
-          few-levels = given .few-levels;
-          few-rules = given .few-rules;
           classes = given .classes;
-          kinds = w .kinds;
-          rule-levels = w .levels;
-          limits = w .limits;
-          scopes = given .scopes;
-          searchable = record { refining = record { finer = given .searchable .refining .finer }; rule-ok = relaxed-ok };
+          refining = record { finer = given .refining .finer };
           leaders = leaders-now;
         };
         valid = λ may π v. record { within = v .within; authorised = v .authorised; eligible = λ i l. relaxed-met i l π (v .within) (v .eligible i l) };

@@ -5,7 +5,8 @@ use Prim.Native.Nat.{ℕ, suc, _≤_, _<_}
 use lib.ListN.{length}
 use borrow.Author.Tests.{lt-ltb, le-ltb}
 use native.Mathlib.Omega.{arith}
-use Rattle.sheet.specs.Answer.{jobOf, answer, sheetOf, numberOf}
+use Rattle.sheet.specs.Answer.{jobOf, answer, sheetOf}
+use Rattle.answer.specs.Number.{numberOf}
 use Rattle.sheet.specs.Readable.{ReadableJob, ReadSheet}
 use Rattle.sheet.specs.declared.Job as sheet
 use Rattle.sheet.specs.declared.Sheet.{Sheet}
@@ -14,11 +15,11 @@ use Rattle.sheet.proofs.Readable.{read-sheet-job}
 use Rattle.sheet.specs.Read.{Read, job, fault, readSheet}
 use Rattle.workflow.specs.Problem.{Job, May, Satisfiable}
 use Rattle.instance.specs.Instance.{instanceOf, mayOf}
-use Rattle.crew.specs.Bytes.{Outcome, refused}
-use Rattle.crew.specs.Crew.{shortFault, planFault}
+use Rattle.answer.specs.Bytes.{Outcome, refused}
+use Rattle.answer.specs.Refusals.{shortFault, capFault, planFault}
 use Rattle.resiliency.specs.Away.{Resilient, FirstBreaking}
 use Rattle.resiliency.specs.Count.{Spare, unsatisfiable, capped, broken, spare, IsSpare}
-use Rattle.resiliency.specs.Spare.{capLimit, capFault, spareSize, counted, answered, spareOf, spareRead, spareAnswer}
+use Rattle.resiliency.specs.Spare.{capLimit, spareSize, counted, answered, spareOf, spareRead, spareAnswer}
 use Rattle.resiliency.specs.Left.{Left}
 use Rattle.resiliency.proofs.Laws.{spare-unique}
 

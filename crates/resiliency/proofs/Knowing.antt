@@ -1,27 +1,26 @@
 -- Plans that do without people, and the words that say so. Assumes nothing.
-use mathlib.Core.Bool.{Bool, true, false, cond, not, _&&_, _||_}
+use mathlib.Core.Bool.{Bool, true, false, not, _&&_, _||_}
 use mathlib.Core.List.{List}
 use mathlib.Core.Path.{_≡_, refl, sym, subst, ap, _∙_}
-use Prim.Native.Nat.{ℕ, _+_, _≤_, _<_}
+use Prim.Native.Nat.{ℕ, zero, suc, _+_, _*_, _/_, _%_, _≤_, _<_}
 use native.Mathlib.Omega.{arith}
-use native.Mathlib.Nat.{not-suc-le-zero}
+use native.Mathlib.Nat.{not-suc-le-zero, add-zero}
 use native.Mathlib.Numerals.{add-one}
 use lib.Bits.{bitAnd, bitOr, bitXor}
-use lib.Dec.{eqb}
 use lib.ListN.{length, getD, set, length-set, replicate, getD-replicate}
 use lib.Seq.{getD-set-same, getD-set-other}
-use borrow.Author.Tests.{eqb-true, eqb-false}
+use borrow.Author.Tests.{eqb-true}
 use Rattle.bits.specs.Word.{hasBit}
 use Rattle.bits.specs.Set.{unlike, Added, Removed}
 use Rattle.bits.proofs.Below.{by-cases, true-false, below-suc, and-left}
 use Rattle.bits.proofs.Counting.{and-of}
-use Rattle.bits.proofs.SetLaws.{and-bit, and-bit-left, or-bit, xor-bit, empty-lacks, full-has, added-has, added-keeps, added-other, removed-lacks, removed-other, removed-was}
+use Rattle.bits.proofs.SetLaws.{and-bit, and-bit-left, and-bit-right, has-suc, part-le, or-bit, xor-bit, empty-lacks, full-has, added-has, added-keeps, removed-was}
 use Rattle.workflow.specs.Problem.{Job, May, Plan, Valid}
 use Rattle.workflow.proofs.Valid.{valid-mono, satisfiable-mono}
 use Rattle.search.specs.Existence.{Existence}
 use Rattle.pattern.specs.Tables.{mayIn, planIn}
 use Rattle.resiliency.specs.Away.{without}
-use Rattle.resiliency.specs.Known.{Remaining, Uses, Noted, Known, Kept, Needed, Stood}
+use Rattle.resiliency.specs.Known.{Remaining, Uses, Noted, inFront, Moved, Known, Kept, Needed, Stood}
 
 -- ---- the masks of the steps without the people away
 
@@ -70,15 +69,28 @@ uses-more plan n mask r u a =
 pub uses-all : (plan : List ℕ) (steps n mask : ℕ) → n ≤ steps → steps ≤ n → Uses n plan mask → Uses steps plan mask
 uses-all plan steps n mask a b u = record { each = λ s l. u .each s (omega arith) }
 
--- ---- a slot of the words
+-- ---- one more plan in front
 
-module _ (mask slot : ℕ) (known : List ℕ) where
-  pub noted-none : length known ≡ 64 → Noted mask slot 0 known known
-  noted-none l = record { sized = l; own = λ p h t. absurd (not-suc-le-zero h); others = λ p i d. refl }
+-- the bits of a word moved up by one
+moved-bit : (x b i : ℕ) → b < 2 → hasBit (bitAnd x 9223372036854775807 * 2 + b) (suc i) ≡ true → hasBit x i ≡ true
+moved-bit x b i l h =
+    let m : ℕ = bitAnd x 9223372036854775807 in
+    let e : (m * 2 + b) / 2 ≡ m = omega arith in
+    and-bit-left x 9223372036854775807 i (sym (has-suc (m * 2 + b) i ∙ ap (λ (w : ℕ). hasBit w i) e) ∙ h)
 
-  noted-more : (n : ℕ) (words : List ℕ) (w : ℕ) → n < 64 → Noted mask slot n known words
-      → (hasBit w slot ≡ true → hasBit mask n ≡ false) → ((i : ℕ) → (i ≡ slot → ⊥) → hasBit w i ≡ hasBit (getD words n 0) i)
-      → Noted mask slot (n + 1) known (set words n w)
+-- a bit 0 that was not put in
+not-put : (m : ℕ) → hasBit (m * 2) 0 ≡ true → ⊥
+not-put m h = let e : (m * 2) / 1 % 2 ≡ 1 = eqb-true _ _ h in omega arith
+
+pub half-fits : (x : ℕ) → bitAnd x 9223372036854775807 ≤ 9223372036854775807
+half-fits x = part-le (bitAnd x 9223372036854775807) 9223372036854775807 (and-bit-right x 9223372036854775807)
+
+module _ (mask : ℕ) (known : List ℕ) where
+  pub noted-none : length known ≡ 64 → Noted mask 0 known known
+  noted-none l = record { sized = l; own = λ p h t. absurd (not-suc-le-zero h); others = λ p i h. absurd (not-suc-le-zero h); rest = λ p h. refl }
+
+  noted-more : (n : ℕ) (words : List ℕ) (w : ℕ) → n < 64 → Noted mask n known words → (hasBit w 0 ≡ true → hasBit mask n ≡ false)
+      → ((i : ℕ) → hasBit w (suc i) ≡ true → hasBit (getD words n 0) i ≡ true) → Noted mask (n + 1) known (set words n w)
   noted-more n words w l k own other =
       let z = k .sized in
       let at : getD (set words n w) n 0 ≡ w = getD-set-same words n w 0 (omega arith) in
@@ -86,45 +98,58 @@ module _ (mask slot : ℕ) (known : List ℕ) where
         sized = length-set words n w ∙ z;
         own = λ p h t.
             below-suc n p (subst (λ (x : ℕ). p < x) (add-one n) h)
-            (λ q. k .own p q (subst (λ (x : ℕ). hasBit x slot ≡ true) (getD-set-other words n p w 0 (omega arith)) t))
-            (λ e. rw e (own (subst (λ (x : ℕ). hasBit x slot ≡ true) at (subst (λ (x : ℕ). hasBit (getD (set words n w) x 0) slot ≡ true) e t))));
-        others = λ p i d.
-            by-cases (eqb p n)
-            (λ t. subst (λ (x : ℕ). hasBit (getD (set words n w) x 0) i ≡ hasBit (getD known x 0) i) (sym (eqb-true p n t))
-            (ap (λ (x : ℕ). hasBit x i) at ∙ other i d ∙ k .others n i d))
-            (λ t. ap (λ (x : ℕ). hasBit x i) (getD-set-other words n p w 0 (eqb-false p n t)) ∙ k .others p i d);
+            (λ q. k .own p q (subst (λ (x : ℕ). hasBit x 0 ≡ true) (getD-set-other words n p w 0 (omega arith)) t))
+            (λ e. rw e (own (subst (λ (x : ℕ). hasBit x 0 ≡ true) at (subst (λ (x : ℕ). hasBit (getD (set words n w) x 0) 0 ≡ true) e t))));
+        others = λ p i h t.
+            below-suc n p (subst (λ (x : ℕ). p < x) (add-one n) h)
+            (λ q. k .others p i q (subst (λ (x : ℕ). hasBit x (suc i) ≡ true) (getD-set-other words n p w 0 (omega arith)) t))
+            (λ e. subst (λ (x : ℕ). hasBit (getD known x 0) i ≡ true) (sym e)
+            (subst (λ (x : ℕ). hasBit x i ≡ true) (k .rest n (omega arith))
+            (other i (subst (λ (x : ℕ). hasBit x (suc i) ≡ true) at (subst (λ (x : ℕ). hasBit (getD (set words n w) x 0) (suc i) ≡ true) e t)))));
+        rest = λ p h. getD-set-other words n p w 0 (omega arith) ∙ k .rest p (omega arith);
       }
 
-  pub noted-out : (n : ℕ) (words : List ℕ) (w : ℕ) → n < 64 → Noted mask slot n known words → Removed (getD words n 0) slot w
-      → Noted mask slot (n + 1) known (set words n w)
-  noted-out n words w l k r =
-      noted-more n words w l k (λ t. true-false t (removed-lacks r)) (removed-other r)
+  -- the plan needs the person, or does without
+  pub noted-in : (n : ℕ) (words : List ℕ) → n < 64 → Noted mask n known words
+      → Noted mask (n + 1) known (set words n (bitAnd (getD words n 0) 9223372036854775807 * 2))
+  noted-in n words l k =
+      noted-more n words (bitAnd (getD words n 0) 9223372036854775807 * 2) l k (λ t. absurd (not-put (bitAnd (getD words n 0) 9223372036854775807) t))
+      (λ i t. moved-bit (getD words n 0) 0 i (omega arith) (subst (λ (x : ℕ). hasBit x (suc i) ≡ true) (sym (add-zero (bitAnd (getD words n 0) 9223372036854775807 * 2))) t))
 
-  pub noted-in : (n : ℕ) (words : List ℕ) (w : ℕ) → n < 64 → Noted mask slot n known words → hasBit mask n ≡ false → Added (getD words n 0) slot w
-      → Noted mask slot (n + 1) known (set words n w)
-  noted-in n words w l k h a = noted-more n words w l k (λ t. h) (added-other a)
+  pub noted-out : (n : ℕ) (words : List ℕ) → n < 64 → Noted mask n known words → hasBit mask n ≡ false
+      → Noted mask (n + 1) known (set words n (bitAnd (getD words n 0) 9223372036854775807 * 2 + 1))
+  noted-out n words l k h =
+      noted-more n words (bitAnd (getD words n 0) 9223372036854775807 * 2 + 1) l k (λ t. h) (λ i t. moved-bit (getD words n 0) 1 i (omega arith) t)
 
-  pub noted-all : (n : ℕ) (words : List ℕ) → n ≤ 64 → 64 ≤ n → Noted mask slot n known words → Noted mask slot 64 known words
-  noted-all n words a b k = let e : n ≡ 64 = omega arith in subst (λ (x : ℕ). Noted mask slot x known words) e k
+  pub noted-all : (n : ℕ) (words : List ℕ) → n ≤ 64 → 64 ≤ n → Noted mask n known words → Noted mask 64 known words
+  noted-all n words a b k = let e : n ≡ 64 = omega arith in subst (λ (x : ℕ). Noted mask x known words) e k
+
+module _ (mask : ℕ) (plans : List ℕ) where
+  pub moved-none : length plans ≡ 64 → Moved mask 0 plans plans
+  moved-none l = record { sized = l; each = λ i h. absurd (not-suc-le-zero h); rest = λ i h. refl }
+
+  pub moved-more : (n : ℕ) (masks : List ℕ) (x : ℕ) → n < 64 → Moved mask n plans masks → x ≡ inFront mask plans n → Moved mask (n + 1) plans (set masks n x)
+  moved-more n masks x l k e =
+      let z = k .sized in
+      record {
+        sized = length-set masks n x ∙ z;
+        each = λ i h.
+            below-suc n i (subst (λ (y : ℕ). i < y) (add-one n) h)
+            (λ q. getD-set-other masks n i x 0 (omega arith) ∙ k .each i q)
+            (λ d. subst (λ (y : ℕ). getD (set masks n x) y 0 ≡ inFront mask plans y) (sym d) (getD-set-same masks n x 0 (omega arith) ∙ e));
+        rest = λ i h. getD-set-other masks n i x 0 (omega arith) ∙ k .rest i (omega arith);
+      }
+
+  -- the mask that was there goes to the next place
+  pub moved-next : (n : ℕ) (masks : List ℕ) → Moved mask n plans masks → getD masks n 0 ≡ inFront mask plans (n + 1)
+  moved-next n masks k = k .rest n (omega arith) ∙ ap (inFront mask plans) (sym (add-one n))
+
+  pub moved-all : (n : ℕ) (masks : List ℕ) → n ≤ 64 → 64 ≤ n → Moved mask n plans masks → Moved mask 64 plans masks
+  moved-all n masks a b k = let e : n ≡ 64 = omega arith in subst (λ (x : ℕ). Moved mask x plans masks) e k
 
 -- everyone's mask
-pub everyone-has : (p : ℕ) → p < 64 → hasBit 18446744073709551615 p ≡ true
+everyone-has : (p : ℕ) → p < 64 → hasBit 18446744073709551615 p ≡ true
 everyone-has p l = full-has 64 p l
-
--- nothing is kept, and the plan counts as one that needs everyone
-pub kept-nothing : (keeping : Bool) {steps slot : ℕ} {plan known plans : List ℕ} → keeping ≡ false → ((s : ℕ) → s < steps → getD plan s 0 < 64)
-    → Kept keeping steps plan 18446744073709551615 slot known plans known plans
-kept-nothing keeping {plan = plan} e l =
-    record {
-      needs = record { each = λ s b. everyone-has (planIn plan s) (l s b) };
-      noted = λ t. true-false t e;
-      dropped = λ t. (refl, refl);
-    }
-
--- a plan goes into its slot
-pub kept-plan : (keeping : Bool) {steps slot mask : ℕ} {plan known known′ plans : List ℕ} → keeping ≡ true → Uses steps plan mask
-    → Noted mask slot 64 known known′ → Kept keeping steps plan mask slot known plans known′ (set plans slot mask)
-kept-plan keeping e u n = record { needs = u; noted = λ t. (n, refl); dropped = λ t. true-false e t }
 
 -- a test of two that fails where the first holds
 pub and-other : (a b : Bool) → a ≡ true → a && b ≡ false → b ≡ false
@@ -152,35 +177,34 @@ module _ (j : Job) (may : May) where
         spares = λ i p b m t. true-false t (rw (getD-replicate {A = ℕ} 64 p 0 0 m) (empty-lacks i));
       }
 
-  -- a plan found goes into its slot
-  known-noted : (plan known known′ plans : List ℕ) (mask slot : ℕ) → Known j may known plans → Valid j may (planIn plan) → Uses (j .steps) plan mask
-      → slot < 64 → Noted mask slot 64 known known′ → Known j may known′ (set plans slot mask)
-  known-noted plan known known′ plans mask slot k v u l n =
-      let z = k .masks in
-      let at : getD (set plans slot mask) slot 0 ≡ mask = getD-set-same plans slot mask 0 (omega arith) in
+  -- a plan found is kept in front of the others
+  pub known-kept : (plan known known′ plans plans′ : List ℕ) (mask : ℕ) → Known j may known plans → Valid j may (planIn plan)
+      → Kept (j .steps) plan mask known plans known′ plans′ → Known j may known′ plans′
+  known-kept plan known known′ plans plans′ mask k v h =
       record {
-        sized = n .sized;
-        masks = length-set plans slot mask ∙ z;
-        plan = λ i. cond (eqb i slot) (planIn plan) (k .plan i);
-        valid = λ i. by-cases (eqb i slot) (λ t. rw t v) (λ t. rw t (k .valid i));
-        people = λ i s b m.
-            by-cases (eqb i slot)
-            (λ t. rw t (subst (λ (x : ℕ). hasBit (getD (set plans slot mask) x 0) (planIn plan s) ≡ true) (sym (eqb-true i slot t)) (rw at (u .each s m))))
-            (λ t. rw (t, getD-set-other plans slot i mask 0 (eqb-false i slot t)) (k .people i s b m));
-        spares = λ i p b m t.
-            by-cases (eqb i slot)
-            (λ e. subst (λ (x : ℕ). hasBit (getD (set plans slot mask) x 0) p ≡ false) (sym (eqb-true i slot e))
-            (rw at (n .own p m (subst (λ (x : ℕ). hasBit (getD known′ p 0) x ≡ true) (eqb-true i slot e) t))))
-            (λ e. rw (getD-set-other plans slot i mask 0 (eqb-false i slot e)) (k .spares i p b m (sym (n .others p i (eqb-false i slot e)) ∙ t)));
+        sized = h .noted .sized;
+        masks = h .moved .sized;
+        plan = planAt;
+        valid = valid;
+        people = people;
+        spares = spares;
       }
+    where
+      planAt : ℕ → Plan
+      planAt zero = planIn plan
+      planAt (suc i) = k .plan i
 
-  -- whether plans are kept or not
-  pub known-kept : (keeping : Bool) (plan known known′ plans plans′ : List ℕ) (mask slot : ℕ) → Known j may known plans → Valid j may (planIn plan)
-      → slot < 64 → Kept keeping (j .steps) plan mask slot known plans known′ plans′ → Known j may known′ plans′
-  known-kept keeping plan known known′ plans plans′ mask slot k v l h =
-      by-cases keeping
-      (λ t. subst (Known j may known′) (sym (h .noted t .1)) (known-noted plan known known′ plans mask slot k v (h .needs) l (h .noted t .0)))
-      (λ t. subst (Known j may known′) (sym (h .dropped t .1)) (subst (λ (x : List ℕ). Known j may x plans) (sym (h .dropped t .0)) k))
+      valid : (i : ℕ) → Valid j may (planAt i)
+      valid zero = v
+      valid (suc i) = k .valid i
+
+      people : (i s : ℕ) → i < 64 → s < j .steps → hasBit (getD plans′ i 0) (planAt i s) ≡ true
+      people zero s b m = rw (h .moved .each 0 b) (h .needs .each s m)
+      people (suc i) s b m = rw (h .moved .each (suc i) b) (k .people i s (omega arith) m)
+
+      spares : (i p : ℕ) → i < 64 → p < 64 → hasBit (getD known′ p 0) i ≡ true → hasBit (getD plans′ i 0) p ≡ false
+      spares zero p b m t = rw (h .moved .each 0 b) (h .noted .own p m t)
+      spares (suc i) p b m t = rw (h .moved .each (suc i) b) (k .spares i p (omega arith) m (h .noted .others p i m t))
 
 -- ---- the people whom the plans of a word need
 
@@ -225,17 +249,16 @@ module _ {j : Job} {may rest : List ℕ} {away : ℕ} {plan plan′ : List ℕ} 
         lost = λ t v. x .lost e (satisfiable-mono j (without (mayIn may) (hasBit away)) (mayIn rest) (λ s p b c h. m .each s p (omega arith) ∙ h) v);
       }
 
-  pub searched-won : (keeping : Bool) {words words′ plans plans′ weight : List ℕ} {mask slot : ℕ} → Known j (mayIn may) words plans
-      → Remaining may away 12 rest → j .steps ≤ 12 → Existence j (mayIn rest) plan plan′ r → r ≡ true → slot < 64
-      → Kept keeping (j .steps) plan′ mask slot words plans words′ plans′
+  pub searched-won : {words words′ plans plans′ weight : List ℕ} {mask : ℕ} → Known j (mayIn may) words plans
+      → Remaining may away 12 rest → j .steps ≤ 12 → Existence j (mayIn rest) plan plan′ r → r ≡ true
+      → Kept (j .steps) plan′ mask words plans words′ plans′
       → length weight ≡ 12 → Stood j (mayIn may) (hasBit away) words′ plans′ weight true mask
-  searched-won keeping {words} {words′} {plans} {plans′} {mask = mask} {slot} k m l x e b u w =
+  searched-won {words} {words′} {plans} {plans′} {mask = mask} k m l x e u w =
       let v : Valid j (without (mayIn may) (hasBit away)) (planIn plan′)
       = valid-mono j (mayIn rest) (without (mayIn may) (hasBit away)) (planIn plan′) (λ s p b c h. sym (m .each s p (omega arith)) ∙ h) (x .won e)
       in
       record {
-        known = known-kept j (mayIn may) keeping plan′ words words′ plans plans′ mask slot k
-            (without-valid j (mayIn may) (hasBit away) (planIn plan′) v) b u;
+        known = known-kept j (mayIn may) plan′ words words′ plans plans′ mask k (without-valid j (mayIn may) (hasBit away) (planIn plan′) v) u;
         weights = w;
         won = λ t. (planIn plan′, v, u .needs .each);
         lost = λ t. true-false refl t;

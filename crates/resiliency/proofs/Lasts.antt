@@ -13,7 +13,7 @@ use Rattle.bits.specs.Set.{unlike, Added, Removed, Lowest}
 use Rattle.bits.proofs.Below.{by-cases, true-false, and-right}
 use Rattle.bits.proofs.Counting.{is-false}
 use Rattle.bits.proofs.SetLaws.{and-bit, and-bit-left, and-bit-right, xor-bit, empty-lacks, zero-empty, part-le, added-keeps, removed-other, removed-was, removed-less}
-use Rattle.realize.specs.Masks.{Mask}
+use Rattle.bits.specs.Set.{Mask}
 use Rattle.workflow.specs.Problem.{Job, May, Satisfiable}
 use Rattle.resiliency.specs.Away.{without, member}
 use Rattle.resiliency.specs.Known.{Known, Suits, Needed, Within, Stood, joined, Last}
@@ -50,6 +50,32 @@ module _ {j : Job} {may : May} {known plans : List ℕ} (k : Known j may known p
             rw e (k .spares i b n m (and-bit-right (getD known a 0) (getD known b 0) i w)));
       }
 
+-- ---- the people from one on
+
+pub record Range (from to mask : ℕ) : Type 0 where
+  pub within : (p : ℕ) → hasBit mask p ≡ true → (from ≤ p) × (p < to)
+  pub has : (p : ℕ) → from ≤ p → p < to → hasBit mask p ≡ true
+
+pub range-all : {n x : ℕ} → Mask (λ p. ltb p n) x → Range 0 n x
+range-all {n} m =
+    record { within = λ p h. (omega arith, ltb-true p n (sym (m .each p) ∙ h)); has = λ p a b. m .each p ∙ lt-ltb p n b }
+
+pub range-above : {from n x y : ℕ} → from ≤ n → Mask (λ p. ltb p n) x → Mask (λ p. ltb p from) y → Range from n (bitXor x y)
+range-above {from} {n} {x} {y} l mx my =
+    record {
+      within = λ p h. inside p (ltb p n) (ltb p from) refl refl (sym (bits p) ∙ h);
+      has = λ p a b. bits p ∙ rw (lt-ltb p n b, le-ltb p from a) refl;
+    }
+  where
+    bits : (p : ℕ) → hasBit (bitXor x y) p ≡ unlike (ltb p n) (ltb p from)
+    bits p = xor-bit x y p ∙ rw (mx .each p, my .each p) refl
+
+    inside : (p : ℕ) (a b : Bool) → ltb p n ≡ a → ltb p from ≡ b → unlike a b ≡ true → (from ≤ p) × (p < n)
+    inside p true true ea eb h = true-false h refl
+    inside p true false ea eb h = (ltb-false p from eb, ltb-true p n ea)
+    inside p false true ea eb h = absurd (omega (arith, ltb-false p n ea, ltb-true p from eb))
+    inside p false false ea eb h = true-false h refl
+
 -- ---- the people still to be tried as the last member
 
 pub record Trying (j : Job) (may : May) (away from rest : ℕ) (words plans weight : List ℕ) : Type 0 where
@@ -65,17 +91,16 @@ not-in mask p q h t = is-false (eqb q p) (λ e. true-false h (subst (λ (x : ℕ
 
 module _ {j : Job} {may : May} {away from : ℕ} where
   -- those whom no kept plan of the word does without
-  pub trying-start : {words plans weight : List ℕ} {word x y rest : ℕ} → Known j may words plans → length weight ≡ 12 → from ≤ j .people
-      → Suits word plans away → Mask (λ p. ltb p (j .people)) x → Mask (λ p. ltb p from) y → Needed word plans (bitXor x y) rest
-      → Trying j may away from rest words plans weight
-  trying-start {words} {plans} {weight} {word} {x} {y} {rest} k w l suits mx my n =
+  pub trying-start : {words plans weight : List ℕ} {word among rest : ℕ} → Known j may words plans → length weight ≡ 12 → from ≤ j .people
+      → Suits word plans away → Range from (j .people) among → Needed word plans among rest → Trying j may away from rest words plans weight
+  trying-start {words} {plans} {weight} {word} {among} {rest} k w l suits range n =
       record {
         known = k;
         weights = w;
         start = l;
-        within = λ p h. inside p (ltb p (j .people)) (ltb p from) refl refl (sym (bits p) ∙ n .part p h);
+        within = λ p h. range .within p (n .part p h);
         passed = λ p a b h.
-            let s = n .lacks p (bits p ∙ outside p a b) h in (
+            let s = n .lacks p (range .has p a b) h in (
               k .plan (s .0),
               valid-without j may (joined away p) (k .plan (s .0)) (k .valid (s .0))
                   (λ t m. or-none (hasBit away (k .plan (s .0) t)) _
@@ -83,18 +108,6 @@ module _ {j : Job} {may : May} {away from : ℕ} where
                   (not-in (getD plans (s .0) 0) p (k .plan (s .0) t) (k .people (s .0) t (s .1) m) (s .3))),
             );
       }
-    where
-      bits : (p : ℕ) → hasBit (bitXor x y) p ≡ unlike (ltb p (j .people)) (ltb p from)
-      bits p = xor-bit x y p ∙ rw (mx .each p, my .each p) refl
-
-      inside : (p : ℕ) (a b : Bool) → ltb p (j .people) ≡ a → ltb p from ≡ b → unlike a b ≡ true → (from ≤ p) × (p < j .people)
-      inside p true true ea eb h = true-false h refl
-      inside p true false ea eb h = (ltb-false p from eb, ltb-true p (j .people) ea)
-      inside p false true ea eb h = absurd (omega (arith, ltb-false p (j .people) ea, ltb-true p from eb))
-      inside p false false ea eb h = true-false h refl
-
-      outside : (p : ℕ) → from ≤ p → p < j .people → unlike (ltb p (j .people)) (ltb p from) ≡ true
-      outside p a b = rw (lt-ltb p (j .people) b, le-ltb p from a) refl
 
   -- a plan found without c answers for c and for all whom it does not need
   pub trying-next : {words plans weight words′ plans′ weight′ : List ℕ} {rest left c x needs : ℕ} {r : Bool}

@@ -8,6 +8,5 @@ pub mod Walking
 pub mod Lasts
 pub mod Turns
 pub mod Sizes
-pub mod Posed
 pub mod Written
 pub mod Varying

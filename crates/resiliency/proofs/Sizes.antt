@@ -107,13 +107,12 @@ module _ {j : Job} {may : May} where
       found-cases (firstPlan j may) (λ xs d. rw d refl) (λ d. absurd (firstPlan-nothing j may d _ (x .won e)))
 
   -- the first plan is known
-  pub known-first : (keeping : Bool) {plan plan′ words plans : List ℕ} {r : Bool} {mask slot : ℕ} → Existence j may plan plan′ r → r ≡ true
-      → j .people ≤ 64 → slot < 64
-      → Kept keeping (j .steps) plan′ mask slot (replicate {A = ℕ} 64 0) (replicate {A = ℕ} 64 18446744073709551615) words plans
+  pub known-first : {plan plan′ words plans : List ℕ} {r : Bool} {mask : ℕ} → Existence j may plan plan′ r → r ≡ true → j .people ≤ 64
+      → Kept (j .steps) plan′ mask (replicate {A = ℕ} 64 0) (replicate {A = ℕ} 64 18446744073709551615) words plans
       → Known j may words plans
-  known-first keeping {plan′ = plan′} {words} {plans} {mask = mask} {slot} x e l b u =
-      known-kept j may keeping plan′ (replicate {A = ℕ} 64 0) words (replicate {A = ℕ} 64 18446744073709551615) plans mask slot
-      (known-zero j may (planIn plan′) (x .won e) l) (x .won e) b u
+  known-first {plan′ = plan′} {words} {plans} {mask = mask} x e l u =
+      known-kept j may plan′ (replicate {A = ℕ} 64 0) words (replicate {A = ℕ} 64 18446744073709551615) plans mask
+      (known-zero j may (planIn plan′) (x .won e) l) (x .won e) u
 
 -- jobs of as many people and steps with the same valid plans have the same spare count
 module _ (j k : Job) (may more : May) (steps : j .steps ≡ k .steps) (people : j .people ≡ k .people)

@@ -10,9 +10,9 @@ use Rattle.sheet.specs.declared.Reading.{Reading}
 use Rattle.sheet.specs.declared.Reading.the-variants.{Readable, Refused}
 use Rattle.sheet.proofs.Refusals.{read-sheet-refusal}
 use Rattle.workflow.specs.Problem.{Job, May}
-use Rattle.crew.specs.Bytes.{longBytes, putAt, written}
-use Rattle.crew.specs.Number.{Numbered}
-use Rattle.crew.proofs.Put.{put-next}
+use Rattle.answer.specs.Bytes.{longBytes, putAt, written}
+use Rattle.answer.specs.Number.{Numbered}
+use Rattle.answer.proofs.Put.{put-next}
 use Rattle.resiliency.specs.Count.{spare, IsSpare}
 use Rattle.resiliency.specs.Known.{told}
 use Rattle.resiliency.specs.Left.{Left, Named}

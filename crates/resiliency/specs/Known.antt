@@ -2,9 +2,9 @@
 use mathlib.Core.Bool.{Bool, true, false, not, _&&_, _||_}
 use mathlib.Core.List.{List, [], _∷_}
 use mathlib.Core.Path.{_≡_}
-use Prim.Native.Nat.{ℕ, suc, _≤_, _<_}
+use Prim.Native.Nat.{ℕ, zero, suc, _≤_, _<_}
 use lib.Dec.{eqb}
-use lib.ListN.{length, getD, set}
+use lib.ListN.{length, getD}
 use Rattle.bits.specs.Word.{hasBit}
 use Rattle.workflow.specs.Problem.{Job, May, Plan, Valid, Satisfiable}
 use Rattle.pattern.specs.Tables.{mayIn, planIn}
@@ -22,11 +22,23 @@ pub record Remaining (may : List ℕ) (away n : ℕ) (rest : List ℕ) : Type 0 
 pub record Uses (n : ℕ) (plan : List ℕ) (mask : ℕ) : Type 0 where
   pub each : (s : ℕ) → s < n → hasBit mask (planIn plan s) ≡ true
 
--- each of the first n people's words says of a slot whether the mask lacks that person; the other slots are as they were
-pub record Noted (mask slot n : ℕ) (known known′ : List ℕ) : Type 0 where
+-- bit 0 of each of the first n people's words says that the mask lacks that person, and their other bits are those of before, moved up by one
+pub record Noted (mask n : ℕ) (known known′ : List ℕ) : Type 0 where
   pub sized : length known′ ≡ 64
-  pub own : (p : ℕ) → p < n → hasBit (getD known′ p 0) slot ≡ true → hasBit mask p ≡ false
-  pub others : (p i : ℕ) → (i ≡ slot → ⊥) → hasBit (getD known′ p 0) i ≡ hasBit (getD known p 0) i
+  pub own : (p : ℕ) → p < n → hasBit (getD known′ p 0) 0 ≡ true → hasBit mask p ≡ false
+  pub others : (p i : ℕ) → p < n → hasBit (getD known′ p 0) (suc i) ≡ true → hasBit (getD known p 0) i ≡ true
+  pub rest : (p : ℕ) → n ≤ p → getD known′ p 0 ≡ getD known p 0
+
+-- the masks with one more in front
+abbrev pub inFront : ℕ → List ℕ → ℕ → ℕ
+inFront mask plans zero = mask
+inFront mask plans (suc i) = getD plans i 0
+
+-- the first n masks are those
+pub record Moved (mask n : ℕ) (plans plans′ : List ℕ) : Type 0 where
+  pub sized : length plans′ ≡ 64
+  pub each : (i : ℕ) → i < n → getD plans′ i 0 ≡ inFront mask plans i
+  pub rest : (i : ℕ) → n ≤ i → getD plans′ i 0 ≡ getD plans i 0
 
 -- 64 valid plans are known: each has its people within a mask, and bit i of a person's word says that the mask of plan i lacks that person
 pub record Known (j : Job) (may : May) (known plans : List ℕ) : Type 0 where
@@ -37,11 +49,11 @@ pub record Known (j : Job) (may : May) (known plans : List ℕ) : Type 0 where
   pub people : (i s : ℕ) → i < 64 → s < j .steps → hasBit (getD plans i 0) (plan i s) ≡ true
   pub spares : (i p : ℕ) → i < 64 → p < 64 → hasBit (getD known p 0) i ≡ true → hasBit (getD plans i 0) p ≡ false
 
--- a plan whose people are in the mask goes into a slot, or nothing is kept
-pub record Kept (keeping : Bool) (steps : ℕ) (plan : List ℕ) (mask slot : ℕ) (known plans known′ plans′ : List ℕ) : Type 0 where
+-- a plan whose people are in the mask is kept in front of the others
+pub record Kept (steps : ℕ) (plan : List ℕ) (mask : ℕ) (known plans known′ plans′ : List ℕ) : Type 0 where
   pub needs : Uses steps plan mask
-  pub noted : keeping ≡ true → Noted mask slot 64 known known′ × (plans′ ≡ set plans slot mask)
-  pub dropped : keeping ≡ false → (known′ ≡ known) × (plans′ ≡ plans)
+  pub noted : Noted mask 64 known known′
+  pub moved : Moved mask 64 plans plans′
 
 -- the plans of a word do without the people away
 pub record Suits (word : ℕ) (plans : List ℕ) (away : ℕ) : Type 0 where

@@ -2,7 +2,7 @@
 use mathlib.Core.List.{List}
 use mathlib.Core.Path.{_≡_}
 use Prim.Native.Nat.{ℕ, _<_}
-use Rattle.crew.specs.Bytes.{Outcome}
+use Rattle.answer.specs.Bytes.{Outcome}
 use Rattle.resiliency.specs.declared.Spared.{Spared}
 use Rattle.resiliency.specs.declared.Spared.the-variants.{Unsatisfiable, Capped, One, Two, Three}
 

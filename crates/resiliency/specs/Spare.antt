@@ -8,16 +8,13 @@ use Rattle.sheet.specs.Answer.{jobOf}
 use Rattle.sheet.specs.Read.{Read, job, fault, readSheet}
 use Rattle.sheet.specs.declared.Job as sheet
 use Rattle.instance.specs.Instance.{instanceOf, mayOf}
-use Rattle.crew.specs.Bytes.{Outcome, refused, written}
-use Rattle.crew.specs.Crew.{shortFault, planFault}
+use Rattle.answer.specs.Bytes.{Outcome, refused, written}
+use Rattle.answer.specs.Refusals.{shortFault, capFault, planFault}
 use Rattle.resiliency.specs.Count.{Spare, unsatisfiable, capped, broken, spare}
 
--- "With cap c, 0 to 3"; "2: cap above 3. Card 0."
+-- "With cap c, 0 to 3"
 abbrev pub capLimit : ℕ
 capLimit = 3
-
-abbrev pub capFault : ℕ
-capFault = 2
 
 -- the bytes of a spare count
 abbrev pub spareSize : ℕ

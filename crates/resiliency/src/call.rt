@@ -1,27 +1,26 @@
 // The spare call: a sheet, a buffer and a cap become a number and 16 bytes.
 use super::Spared;
 use super::job::job_count;
-use crew::NO_PLAN;
-use crew::SHORT;
-use crew::number;
-use crew::write::put_long;
+use answer::CAP_REFUSED;
+use answer::NO_PLAN;
+use answer::SHORT;
+use answer::bytes::put_long;
+use answer::number;
 use sheet::Reading;
 use sheet::read_sheet;
 ghost use mathlib.Core.List.{[], _∷_, _++_};
 ghost use mathlib.Core.Path.{_≡_};
 ghost use Prim.Native.Nat.{_≤_};
 ghost use lib.ListN.{length, drop};
-ghost use Rattle.crew.specs.Bytes.{written};
+ghost use Rattle.answer.specs.Bytes.{written};
 ghost use Rattle.resiliency.specs.Known.{told};
 ghost use Rattle.resiliency.specs.Spare.{answered, spareAnswer};
 ghost use Rattle.resiliency.specs.Left.{Left, Named};
 
-// The greatest cap, the bytes of a spare count, and the refusal of a greater cap.
+// The greatest cap, and the bytes of a spare count.
 const MOST_AWAY: u32 = 3;
 
 const SPARE_BYTES: usize = 16;
-
-const CAP_REFUSED: u32 = 512;
 
 // Writes four numbers.
 fn put_four(out: &mut [u8], count: u32, a: u32, b: u32, c: u32)
@@ -62,8 +61,8 @@ fn write_count(tag: &[u32; 64], cap: u32, count: Spared, out: &mut [u8]) -> u32
     }
 }
 
-// The spare call, with or without kept plans, and the number of its searches.
-pub fn walked(sheet: &[u8], answer: &mut [u8], cap: u32, keeping: bool, asked: &mut u32) -> u32
+// The spare call.
+pub fn spare(sheet: &[u8], answer: &mut [u8], cap: u32) -> u32
     ensures { λ r. ⌜ Left (spareAnswer cap (now (sheet .entry)) (now (answer .entry))) r (now (answer .exit)) ⌝ }
 {
     if cap > MOST_AWAY {
@@ -84,14 +83,6 @@ pub fn walked(sheet: &[u8], answer: &mut [u8], cap: u32, keeping: bool, asked: &
     }
     let job = read.job;
     let tag = job.person_tag;
-    let count = job_count(job, people, steps, rules, cap as usize, keeping, asked);
+    let count = job_count(job, people, steps, rules, cap as usize);
     write_count(&tag, cap, count, answer)
-}
-
-// The spare call.
-pub fn spare(sheet: &[u8], answer: &mut [u8], cap: u32) -> u32
-    ensures { λ r. ⌜ Left (spareAnswer cap (now (sheet .entry)) (now (answer .entry))) r (now (answer .exit)) ⌝ }
-{
-    let mut asked: u32 = 0;
-    walked(sheet, answer, cap, true, &mut asked)
 }

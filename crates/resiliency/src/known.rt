@@ -1,22 +1,21 @@
-// Searches for a plan without some people, and the plans that they find. Up to 64 are kept: each has its
-// people as a mask, and each person's word says which of them do without that person.
-use super::varied::recent;
+// Searches for a plan without some people, and the plans that they find. The last 64 are kept, the newest
+// first: each has its people as a mask, and each person's word says which of them do without that person.
 use super::varied::varied;
 use bits::set::has;
 use bits::set::lowest;
 use bits::set::with;
 use bits::set::without;
-use levels::Size;
+use pattern::Size;
 ghost use mathlib.Core.Path.{_≡_};
 ghost use Prim.Native.Nat.{ℕ, _≤_, _<_};
 ghost use lib.ListN.{length, getD};
 ghost use Rattle.bits.specs.Word.{hasBit};
-ghost use Rattle.levels.specs.Given.{Given};
+ghost use Rattle.levels.specs.Tabled.{Tabled};
 ghost use Rattle.pattern.specs.Tables.{mayIn, jobIn};
-ghost use Rattle.resiliency.specs.Known.{Remaining, Uses, Noted, Known, Needed, Kept, Stood};
+ghost use Rattle.resiliency.specs.Known.{Remaining, Uses, Noted, Moved, Known, Needed, Kept, Stood};
 
-// Everyone, and the mask of a slot that has no plan.
-pub const EVERYONE: u64 = 0xffff_ffff_ffff_ffff;
+// All plans but the one kept longest.
+const ALL_BUT_LAST: u64 = 0x7fff_ffff_ffff_ffff;
 
 // Whether a plan was found, and the people it needs: anyone else may be away as well.
 pub struct Trial {
@@ -48,41 +47,44 @@ fn people_of(steps: usize, plan: &[u8; 12]) -> u64
     mask
 }
 
-// Says in each person's word whether the plan of a slot, of these people, does without that person.
-fn note(mask: u64, slot: usize, known: &mut [u64; 64])
-    requires { ⌜ (slot < 64) × (length (now known) ≡ 64) ⌝ }
-    ensures { λ _. ⌜ Noted mask slot 64 (now (known .entry)) (now (known .exit)) ⌝ }
+// Puts a plan of these people in front of the kept ones, in each person's word: bit 0 says whether it does
+// without that person. The last plan goes.
+fn note(mask: u64, known: &mut [u64; 64])
+    requires { ⌜ length (now known) ≡ 64 ⌝ }
+    ensures { λ _. ⌜ Noted mask 64 (now (known .entry)) (now (known .exit)) ⌝ }
 {
     for p in 0..64usize {
-        let word = known[p];
+        let moved = (known[p] & ALL_BUT_LAST) * 2;
         if has(mask, p) {
-            known[p] = without(word, slot);
+            known[p] = moved;
             continue;
         }
-        known[p] = with(word, slot);
+        known[p] = moved + 1;
     }
 }
 
-// Keeps a plan in a slot and gives its people. Where no plans are kept nothing is, and the plan counts
-// as one that needs everyone.
-pub fn keep_plan(
-    keeping: bool,
-    steps: usize,
-    plan: &[u8; 12],
-    slot: usize,
-    known: &mut [u64; 64],
-    plans: &mut [u64; 64],
-) -> u64
-    requires { ⌜ (steps ≤ 12) × (length (now plan) ≡ 12) × ((s : ℕ) → s < steps → getD (now plan) s 0 < 64)
-        × (slot < 64) × (length (now known) ≡ 64) × (length (now plans) ≡ 64) ⌝ }
-    ensures { λ r. ⌜ Kept keeping steps (now (plan .entry)) r slot (now (known .entry)) (now (plans .entry)) (now (known .exit)) (now (plans .exit)) ⌝ }
+// The same for the people of the plans.
+fn put_first(mask: u64, plans: &mut [u64; 64])
+    requires { ⌜ length (now plans) ≡ 64 ⌝ }
+    ensures { λ _. ⌜ Moved mask 64 (now (plans .entry)) (now (plans .exit)) ⌝ }
 {
-    if !keeping {
-        return EVERYONE;
+    let mut next = mask;
+    for i in 0..64usize {
+        let here = plans[i];
+        plans[i] = next;
+        next = here;
     }
+}
+
+// Keeps a plan, in front of the others, and gives its people.
+pub fn keep_plan(steps: usize, plan: &[u8; 12], known: &mut [u64; 64], plans: &mut [u64; 64]) -> u64
+    requires { ⌜ (steps ≤ 12) × (length (now plan) ≡ 12) × ((s : ℕ) → s < steps → getD (now plan) s 0 < 64)
+        × (length (now known) ≡ 64) × (length (now plans) ≡ 64) ⌝ }
+    ensures { λ r. ⌜ Kept steps (now (plan .entry)) r (now (known .entry)) (now (plans .entry)) (now (known .exit)) (now (plans .exit)) ⌝ }
+{
     let mask = people_of(steps, plan);
-    note(mask, slot, known);
-    plans[slot] = mask;
+    note(mask, known);
+    put_first(mask, plans);
     mask
 }
 
@@ -104,51 +106,34 @@ pub fn needed(word: u64, plans: &[u64; 64], among: u64) -> u64
     rest
 }
 
-// Counts a search, and gives the slot of the plan that it may find. A walk asks for 43,745 at most; the
-// remainder keeps any count within its word.
-fn next_slot(asked: &mut u32) -> usize
-    ensures { λ r. ⌜ r < 64 ⌝ }
-{
-    let before = *asked;
-    *asked = before % 0xffff_ffff + 1;
-    (before % 64) as usize
-}
-
 // Searches for a plan without the people away, and keeps it.
 pub fn searched(
     size: Size,
     class: &[u8; 192],
-    kind: &[u8; 64],
-    level: &[u8; 64],
-    limit: &[u8; 64],
-    scope: &[u16; 64],
+    crowd: &[u64; 192],
+    rule: &[u32; 64],
+    of: &[u64; 12],
     may: &[u64; 12],
     away: u64,
-    keeping: bool,
     weight: &mut [u32; 12],
     known: &mut [u64; 64],
     plans: &mut [u64; 64],
-    asked: &mut u32,
 ) -> Trial
-    requires { ⌜ Given (size .steps) (size .people) (size .levels) (size .rules) (now class) (now kind) (now level) (now limit) (now scope)
-        × (length (now may) ≡ 12) × (length (now weight) ≡ 12)
-        × Known (jobIn (size .steps) (size .people) (size .levels) (now class) (size .rules) (now kind) (now level) (now limit) (now scope)) (mayIn (now may)) (now known) (now plans) ⌝ }
-    ensures { λ r. ⌜ Stood (jobIn (size .steps) (size .people) (size .levels) (now (class .entry)) (size .rules) (now (kind .entry)) (now (level .entry)) (now (limit .entry)) (now (scope .entry)))
+    requires { ⌜ Tabled size (now class) (now crowd) (now rule) (now of) × (length (now may) ≡ 12) × (length (now weight) ≡ 12)
+        × Known (jobIn size (now class) (now rule)) (mayIn (now may)) (now known) (now plans) ⌝ }
+    ensures { λ r. ⌜ Stood (jobIn size (now (class .entry)) (now (rule .entry)))
         (mayIn (now (may .entry))) (hasBit away) (now (known .exit)) (now (plans .exit)) (now (weight .exit)) (r .found) (r .needs) ⌝ }
 {
-    let slot = next_slot(asked);
     let rest = remaining(may, away);
     let mut plan = [0u8; 12];
-    let used = recent(slot, plans);
     if !varied(
         size,
         class,
-        kind,
-        level,
-        limit,
-        scope,
+        crowd,
+        rule,
+        of,
         &rest,
-        used,
+        plans,
         weight,
         &mut plan,
     ) {
@@ -157,7 +142,7 @@ pub fn searched(
             needs: 0,
         };
     }
-    let needs = keep_plan(keeping, size.steps, &plan, slot, known, plans);
+    let needs = keep_plan(size.steps, &plan, known, plans);
     Trial {
         found: true,
         needs: needs,

@@ -5,25 +5,31 @@ use mathlib.Core.List.{List}
 use mathlib.Core.Path.{_≡_, refl, sym, subst, ap, _∙_}
 use Prim.Native.Nat.{ℕ, _≤_, _<_}
 use native.Mathlib.Omega.{arith}
-use lib.ListN.{length, replicate}
-use borrow.Author.Tests.{not-true, not-false}
+use lib.Dec.{ltb}
+use lib.ListN.{length, getD, replicate}
+use borrow.Author.Tests.{ltb-true, lt-ltb, not-true, not-false}
 use Rattle.bits.specs.Word.{hasBit}
 use Rattle.bits.proofs.Below.{by-cases, true-false, and-left, and-right}
 use Rattle.bits.proofs.Counting.{is-false, count-none}
-use Rattle.bits.proofs.SetLaws.{empty-lacks, part-le}
-use Rattle.workflow.specs.Problem.{Job, May, Plan, Valid, Satisfiable}
-use Rattle.workflow.specs.Interval.{InInterval}
+use Rattle.bits.proofs.SetLaws.{empty-lacks, zero-empty, part-le}
+use Rattle.workflow.specs.Problem.{Job, May, Plan, Valid, Satisfiable, InBounds}
 use Rattle.workflow.proofs.Valid.{valid-agree}
+use Rattle.pattern.specs.declared.Size.{Size}
 use Rattle.pattern.specs.Eligible.{groupCount, openCount, Possible, AllNamed}
 use Rattle.pattern.specs.Realize.{Realizes, Realized}
 use Rattle.pattern.specs.Search.{Searchable, Exists, completed}
 use Rattle.pattern.specs.Tables.{mayIn, labelIn, planIn, jobIn}
 use Rattle.pattern.proofs.Patterns.{nothing-pattern}
 use Rattle.pattern.proofs.Search.{exists-nothing, exists-possible, completed-placed, completed-other, completed-exists}
-use Rattle.eligible.specs.Rules.{Says, AllPossible}
-use Rattle.eligible.proofs.Tests.{says-true, says-false}
-use Rattle.realize.specs.Parts.{Sized, Tabled}
-use Rattle.levels.specs.Given.{Given}
+use Rattle.bits.specs.Says.{Says}
+use Rattle.bits.specs.Set.{Mask}
+use Rattle.bits.proofs.Masks.{mask-has, mask-in}
+use Rattle.bits.proofs.Says.{says-true, says-false}
+use Rattle.pattern.proofs.Given.{searchable}
+use Rattle.eligible.specs.Rules.{Among}
+use Rattle.levels.specs.Tabled.{Naming}
+use Rattle.realize.specs.Parts.{Sized, Indexed}
+use Rattle.pattern.specs.Given.{Given}
 use Rattle.search.specs.Existence.{Named, AllStaffed, Spread, Existence}
 use Rattle.search.specs.State.{Patterned, Reached, Ended, Outcome}
 use Rattle.realize.specs.Filling.{Realizing}
@@ -60,7 +66,7 @@ module _ (j : Job) (may : May) (label : List ℕ) where
 
 -- with every step placed that a rule names, a rule that can be met is met
 pub exact : (j : Job) (placed : ℕ → Bool) (label : ℕ → ℕ → ℕ) → AllNamed j placed → (i : ℕ) → i < j .rules
-    → Possible (j .steps) placed label (j .rule i) → InInterval (j .steps) (j .rule i) (groupCount (j .steps) placed label (j .rule i))
+    → Possible (j .steps) placed label (j .rule i) → InBounds (j .rule i) (groupCount (j .steps) placed label (j .rule i))
 exact j placed label named i l p =
     let none-open : openCount (j .steps) placed (j .rule i) ≡ 0
     = count-none (j .steps) (λ s. j .rule i .scope s && not (placed s))
@@ -91,54 +97,65 @@ reached-valid {j} {may} {placed} {label} ok w π r others =
     named : AllNamed j (hasBit placed)
     named i s a l h = w .named i s a l h (empty-lacks s)
 
-module _ {steps people levels rules : ℕ} {class kind level limit scope : List ℕ}
-    (given : Given steps people levels rules class kind level limit scope) (may : List ℕ) where
+module _ {size : Size} {class rule : List ℕ}
+    (given : Given size class rule) (may : List ℕ) where
   -- a step that nobody may do
-  pub existence-unstaffed : (plan : List ℕ) → length plan ≡ 12 → (r : Bool) → Says r (AllStaffed steps people may) → not r ≡ true
-      → Existence (jobIn steps people levels class rules kind level limit scope) (mayIn may) plan plan false
+  pub existence-unstaffed : (plan : List ℕ) → length plan ≡ 12 → (r : Bool) → Says r (AllStaffed (size .steps) (size .people) may) → not r ≡ true
+      → Existence (jobIn size class rule) (mayIn may) plan plan false
   existence-unstaffed plan e r says f =
       record {
         sized = e;
         won = λ t. true-false refl (sym t);
-        lost = λ t w. says-false r (AllStaffed steps people may) says (not-true r f) (λ s l. (w .0 s, w .1 .within s l, w .1 .authorised s l));
+        lost = λ t w. says-false r (AllStaffed (size .steps) (size .people) may) says (not-true r f) (λ s l. (w .0 s, w .1 .within s l, w .1 .authorised s l));
         kept = λ t. refl;
       }
 
   -- a rule that cannot be met
-  pub existence-ruled-out : (plan label : List ℕ) → length plan ≡ 12 → (r : Bool) → Says r (AllPossible steps rules kind level limit scope 0 label) → not r ≡ true
-      → Existence (jobIn steps people levels class rules kind level limit scope) (mayIn may) plan plan false
-  existence-ruled-out plan label e r says f =
-      let n = says-false r (AllPossible steps rules kind level limit scope 0 label) says (not-true r f) in
-      let j = jobIn steps people levels class rules kind level limit scope in
+  pub existence-ruled-out : (plan label : List ℕ) → length plan ≡ 12 → (all : ℕ) → Mask (λ i. ltb i (size .rules)) all → (r : Bool)
+      → Says r (Among (size .steps) all 0 rule 0 label) → not r ≡ true → Existence (jobIn size class rule) (mayIn may) plan plan false
+  existence-ruled-out plan label e all mask r says f =
+      let n = says-false r (Among (size .steps) all 0 rule 0 label) says (not-true r f) in
+      let j = jobIn size class rule in
       record {
         sized = e;
         won = λ t. true-false refl (sym t);
-        lost = λ t w. n (exists-possible j (mayIn may) (hasBit 0) (labelIn label) (given .searchable) (nothing-exists j (mayIn may) label w));
+        lost = λ t w. n (record {
+          part = λ i h. true-false h (empty-lacks i);
+          possible = λ i h k.
+              exists-possible j (mayIn may) (hasBit 0) (labelIn label) (searchable given) (nothing-exists j (mayIn may) label w) i
+              (ltb-true i (size .rules) (mask-in mask i h));
+        });
         kept = λ t. refl;
       }
 
-  pub start-patterned : (label : List ℕ) → length label ≡ 36 → Patterned (jobIn steps people levels class rules kind level limit scope) 0 label
-  start-patterned label e = nothing-patterned (jobIn steps people levels class rules kind level limit scope) (mayIn may) label e
+  pub start-patterned : (label : List ℕ) → length label ≡ 36 → Patterned (jobIn size class rule) 0 label
+  start-patterned label e = nothing-patterned (jobIn size class rule) (mayIn may) label e
 
-  pub reached-start : (rest : ℕ) (label : List ℕ) → length label ≡ 36 → (r : Bool) → Says r (AllPossible steps rules kind level limit scope 0 label) → not r ≡ false → Named steps rules scope rest
-      → Reached (jobIn steps people levels class rules kind level limit scope) (mayIn may) 0 rest label
-  reached-start rest label e r says f n =
-      let a = says-true r (AllPossible steps rules kind level limit scope 0 label) says (not-false r f) in
-      let j = jobIn steps people levels class rules kind level limit scope in
+  pub reached-start : (rest : ℕ) (of label : List ℕ) → length label ≡ 36 → (all : ℕ) → Mask (λ i. ltb i (size .rules)) all → (r : Bool)
+      → Says r (Among (size .steps) all 0 rule 0 label) → not r ≡ false → Naming (size .rules) rule of → Named (size .steps) of rest
+      → Reached (jobIn size class rule) (mayIn may) 0 rest label
+  reached-start rest of label e all mask r says f naming n =
+      let a = says-true r (Among (size .steps) all 0 rule 0 label) says (not-false r f) in
+      let j = jobIn size class rule in
       record {
         patterned = nothing-patterned j (mayIn may) label e;
-        passed = record { possible = a; realized = nothing-realized j (mayIn may) label };
+        passed = record {
+          possible = λ i l. a .possible i (mask-has mask i (lt-ltb i (size .rules) l)) (empty-lacks i);
+          realized = nothing-realized j (mayIn may) label;
+        };
         below = n .below;
         apart = λ s h. empty-lacks s;
-        named = λ i s a l h k. n .covers i s a l k;
+        named = λ i s a l h k.
+            is-false _
+            (λ t. true-false (naming .has i s a (omega (arith, given .ruled .few-steps)) t) (zero-empty (getD of s 0) (n .covers s l k) i));
       }
 
   -- the search fails
   pub existence-lost : (plan label : List ℕ) {rest : ℕ} {last : List ℕ} (r : Bool) → length plan ≡ 12
-      → Outcome (jobIn steps people levels class rules kind level limit scope) (mayIn may) 0 rest label last r → not r ≡ true
-      → Existence (jobIn steps people levels class rules kind level limit scope) (mayIn may) plan plan false
+      → Outcome (jobIn size class rule) (mayIn may) 0 rest label last r → not r ≡ true
+      → Existence (jobIn size class rule) (mayIn may) plan plan false
   existence-lost plan label r e o f =
-      let j = jobIn steps people levels class rules kind level limit scope in
+      let j = jobIn size class rule in
       record {
         sized = e;
         won = λ t. true-false refl (sym t);
@@ -147,27 +164,27 @@ module _ {steps people levels rules : ℕ} {class kind level limit scope : List 
       }
 
   -- the search succeeds: the steps named are placed
-  finished : {rest : ℕ} {label last : List ℕ} (r : Bool) → Outcome (jobIn steps people levels class rules kind level limit scope) (mayIn may) 0 rest label last r
-      → not r ≡ false → Reached (jobIn steps people levels class rules kind level limit scope) (mayIn may) rest 0 last
+  finished : {rest : ℕ} {label last : List ℕ} (r : Bool) → Outcome (jobIn size class rule) (mayIn may) 0 rest label last r
+      → not r ≡ false → Reached (jobIn size class rule) (mayIn may) rest 0 last
   finished r o f = ended-reached (o .won (not-false r f))
 
   pub finished-sized : {rest : ℕ} {label last crowd reach : List ℕ} (r : Bool) → length may ≡ 12
-      → Outcome (jobIn steps people levels class rules kind level limit scope) (mayIn may) 0 rest label last r → not r ≡ false
-      → Tabled people levels class may crowd reach → Sized levels may last crowd reach rest
+      → Outcome (jobIn size class rule) (mayIn may) 0 rest label last r → not r ≡ false
+      → Indexed (size .people) (size .levels) class may crowd reach → Sized (size .levels) may last crowd reach rest
   finished-sized {rest} {label} {last} r e o f w = sized given may rest last e (finished r o f .patterned) w
 
-  pub existence-won : {rest : ℕ} {label last plan plan′ : List ℕ} (first : List ℕ) (a r : Bool) → Says a (AllStaffed steps people may) → not a ≡ false
-      → Outcome (jobIn steps people levels class rules kind level limit scope) (mayIn may) 0 rest label last r → not r ≡ false → Spread steps may plan
-      → Realizing people levels class may last rest plan plan′
-      → Existence (jobIn steps people levels class rules kind level limit scope) (mayIn may) first plan′ true
-  existence-won {rest} {label} {last} {plan} {plan′} first a r says f o g spread filled =
-      let all = says-true a (AllStaffed steps people may) says (not-false a f) in
+  pub existence-won : {crowd reach : List ℕ} → Indexed (size .people) (size .levels) class may crowd reach → {rest : ℕ} {label last plan plan′ : List ℕ} (first : List ℕ) (a r : Bool) → Says a (AllStaffed (size .steps) (size .people) may) → not a ≡ false
+      → Outcome (jobIn size class rule) (mayIn may) 0 rest label last r → not r ≡ false → Spread (size .steps) may plan
+      → Realizing (size .people) (size .levels) may last crowd reach rest plan plan′
+      → Existence (jobIn size class rule) (mayIn may) first plan′ true
+  existence-won indexed {rest} {label} {last} {plan} {plan′} first a r says f o g spread filled =
+      let all = says-true a (AllStaffed (size .steps) (size .people) may) says (not-false a f) in
       let w = finished r o g in
       record {
         sized = filled .kept .sized ∙ spread .sized;
         won = λ t.
-            reached-valid (given .searchable) w (planIn plan′)
-            (filled .realizes (jobIn steps people levels class rules kind level limit scope) (known given may rest last (w .patterned)) (w .passed .realized))
+            reached-valid (searchable given) w (planIn plan′)
+            (filled .realizes class indexed (jobIn size class rule) (known given may rest last (w .patterned)) (w .passed .realized))
             (λ s l h.
             let x = all s l in
             let f = spread .each s l in

@@ -10,8 +10,8 @@ use lib.Seq.{getD-set-same, getD-set-other}
 use borrow.Author.Tests.{eqb-true, eqb-false, ltb-true, ltb-false}
 use Rattle.bits.specs.Word.{hasBit}
 use Rattle.bits.proofs.Below.{by-cases, true-false}
-use Rattle.eligible.specs.Rules.{Says}
-use Rattle.eligible.proofs.Tests.{says-of}
+use Rattle.bits.specs.Says.{Says}
+use Rattle.bits.proofs.Says.{says-of}
 use Rattle.pattern.specs.Place.{grown}
 use Rattle.pattern.specs.Tables.{labelIn}
 use Rattle.pattern.proofs.Place.{grown-old, grown-joined, grown-apart}

@@ -17,19 +17,20 @@ use Rattle.bits.specs.Word.{hasBit, bitsSet}
 use Rattle.bits.specs.Set.{unlike, Added, Removed, Lowest}
 use Rattle.bits.proofs.Below.{by-cases, true-false, and-left, and-right}
 use Rattle.bits.proofs.Counting.{and-of, is-false, count-true, count-false, count-zero, count-grows}
-use Rattle.bits.proofs.SetLaws.{empty-lacks, or-bit, xor-bit, mod-bit, added-has, added-keeps, added-other, removed-was, removed-differs}
-use Rattle.workflow.specs.Problem.{Valid, Asks, Fits, opens, distinct}
+use Rattle.bits.proofs.Ones.{ones-bits}
+use Rattle.bits.proofs.SetLaws.{empty-lacks, or-bit, xor-bit, has-below, added-has, added-keeps, added-other, removed-was, removed-differs}
+use Rattle.workflow.specs.Problem.{Valid, opens, distinct}
 use Rattle.workflow.proofs.Counts.{opens-scope, opens-new}
 use Rattle.matching.specs.Assignment.{Assignment, Covers, inMask, suits}
-use Rattle.pattern.specs.Tables.{kindIn, classIn, mayIn, jobIn}
+use Rattle.pattern.specs.declared.Size.{Size}
+use Rattle.pattern.specs.Rule.{levelIn, leastIn, scopeIn}
+use Rattle.pattern.specs.Tables.{classIn, mayIn, jobIn}
 use Rattle.pattern.proofs.Leader.{leader-le}
-use Rattle.eligible.proofs.Open.{span}
-use Rattle.relax.proofs.Carrying.{scope-counted}
-use Rattle.realize.specs.Parts.{Tabled, TablesOf}
+use Rattle.realize.specs.Parts.{Indexed, TablesOf}
 use Rattle.realize.proofs.Reach.{tables-of}
-use Rattle.levels.specs.Given.{Given}
+use Rattle.pattern.specs.Given.{Given}
 use Rattle.search.specs.Existence.{Existence}
-use Rattle.search.specs.Limits.{Gathering, Extra, Extras, Edges, Manned, Reaching, Bounded, Limits}
+use Rattle.search.specs.Limits.{Gathering, Extra, Extras, Edges, Manned, Reaching, Limits}
 
 -- ---- the classes of a scope
 
@@ -254,10 +255,8 @@ module _ (scope : ℕ → Bool) (c member : ℕ → ℕ) (s : ℕ) where
   unfolding spreading
   spreading-extra h = rw h refl
 
-in-groups : (steps scope g : ℕ) → inMask (scope % 2 ^ steps) g ≡ true → (g < steps) × (hasBit scope g ≡ true)
-in-groups steps scope g h =
-    let b : ltb g steps && hasBit scope g ≡ true = sym (mod-bit steps scope g) ∙ and-right (ltb g 12) _ h in
-    (ltb-true g steps (and-left (ltb g steps) _ b), and-right (ltb g steps) _ b)
+in-groups : (steps scope g : ℕ) → scope < 2 ^ steps → inMask scope g ≡ true → (g < steps) × (hasBit scope g ≡ true)
+in-groups steps scope g small h = let b = and-right (ltb g 12) _ h in (has-below steps scope g small b, b)
 
 module _ {steps : ℕ} {reach : List ℕ} {q limit scope all mask : ℕ} {edges : List ℕ} (gathered : Gathering steps reach q scope all)
     (extra : Extra all (bitsSet steps scope - limit) mask) (w : Edges steps reach q mask edges) (c : ℕ → ℕ) (manned : Manned steps reach q scope c)
@@ -318,13 +317,13 @@ module _ {steps : ℕ} {reach : List ℕ} {q limit scope all mask : ℕ} {edges 
       in
       omega arith))
 
-  assignment : Assignment (inMask (scope % 2 ^ steps)) (suits edges) f
-  assignment =
+  assignment : scope < 2 ^ steps → Assignment (inMask scope) (suits edges) f
+  assignment small =
       record {
-        along = λ g h. let x = in-groups steps scope g h in suited g (x .0) (x .1);
+        along = λ g h. let x = in-groups steps scope g small h in suited g (x .0) (x .1);
         apart = λ g h a b e.
-            let x = in-groups steps scope g a in
-            let y = in-groups steps scope h b in
+            let x = in-groups steps scope g small a in
+            let y = in-groups steps scope h small b in
             by-cases (ltb g h)
             (λ t. absurd (ordered g h (ltb-true g h t) (y .0) (x .1) (y .1) e))
             (λ t. by-cases (ltb h g)
@@ -332,105 +331,73 @@ module _ {steps : ℕ} {reach : List ℕ} {q limit scope all mask : ℕ} {edges 
             (λ u. let n : h ≤ g = ltb-false g h t in let m : g ≤ h = ltb-false h g u in omega arith));
       }
 
-module _ (steps : ℕ) (few : steps ≤ 12) (reach : List ℕ) (q limit scope : ℕ) where
-  pub reaching : {all : ℕ} (mask : ℕ) {edges : List ℕ} {found : Bool} {at : ℕ → ℕ} (enough : Bool) → Gathering steps reach q scope all
-      → Extras all (ones (scope % (1 * 2 ^ steps % 65536)) - limit) enough mask → not enough ≡ false → Edges steps reach q mask edges
-      → Covers (inMask (scope % (1 * 2 ^ steps % 65536))) (suits edges) found at → Reaching steps reach q limit scope found
+module _ (steps : ℕ) (few : steps ≤ 12) (reach : List ℕ) (r : ℕ) (small : scopeIn r < 2 ^ steps) where
+  pub reaching : {all : ℕ} (mask : ℕ) {edges : List ℕ} {found : Bool} {at : ℕ → ℕ} (enough : Bool) → Gathering steps reach (levelIn r - 1) (scopeIn r) all
+      → Extras all (ones (scopeIn r) - leastIn r) enough mask → not enough ≡ false → Edges steps reach (levelIn r - 1) mask edges
+      → Covers (inMask (scopeIn r)) (suits edges) found at → Reaching steps reach r found
   reaching {all} mask {edges} {found} {at} enough g x t w o =
       record {
         short = λ e c manned l.
-            let ex : Extra all (bitsSet steps scope - limit) mask
-            = subst (λ (n : ℕ). Extra all (n - limit) mask) (scope-counted steps few scope) (x .extra (not-false enough t))
+            let ex : Extra all (bitsSet steps (scopeIn r) - leastIn r) mask
+            = subst (λ (n : ℕ). Extra all (n - leastIn r) mask) (ones-bits steps (scopeIn r) small) (x .extra (not-false enough t))
             in
-            subst (λ (n : ℕ). Covers (inMask (scope % n)) (suits edges) found at) (span steps few) o .complete e
-            (spreading (hasBit scope) c (ex .member)) (assignment g ex w c manned l);
+            o .complete e (spreading (hasBit (scopeIn r)) c (ex .member)) (assignment g ex w c manned l small);
       }
 
-  pub reaching-unknown : Reaching steps reach q limit scope true
+  pub reaching-unknown : Reaching steps reach r true
   reaching-unknown = record { short = λ e. true-false refl e }
 
 -- ---- the rules
 
-module _ {steps rules : ℕ} {kind level limit scope reach : List ℕ} where
-  pub limits-short : (i : ℕ) (r : Bool) → i < rules → 4 ≤ getD kind i 0
-      → Reaching steps reach (getD level i 0 - 1) (getD limit i 0) (getD scope i 0) r → not r ≡ true → Limits steps rules kind level limit scope reach false
-  limits-short i r l k w f = record { unreached = λ _. record { rule = i; below = l; lower = k; short = w .short (not-true r f) } }
+module _ {steps rules : ℕ} {rule reach : List ℕ} where
+  pub limits-short : (i : ℕ) (r : Bool) → i < rules → Reaching steps reach (getD rule i 0) r → not r ≡ true → Limits steps rules rule reach false
+  limits-short i r l w f =
+      record { unreached = λ _. record { which = i; below = l; short = record { short = λ e. w .short (not-true r f) } } }
 
-  pub limits-passed : Limits steps rules kind level limit scope reach true
+  pub limits-passed : Limits steps rules rule reach true
   limits-passed = record { unreached = λ e. true-false refl e }
 
--- what a lower limit is and asks
-lower-fits : (k limit size : ℕ) → 4 ≤ k → Fits (kindIn k) limit size → limit ≤ size
-lower-fits zero limit size l f = absurd (omega arith)
-lower-fits (suc zero) limit size l f = absurd (omega arith)
-lower-fits (suc (suc zero)) limit size l f = absurd (omega arith)
-lower-fits (suc (suc (suc zero))) limit size l f = absurd (omega arith)
-lower-fits (suc (suc (suc (suc k)))) limit size l f = f .2
+module _ {size : Size} {class rule : List ℕ} (given : Given size class rule) (may : List ℕ) {crowd reach : List ℕ}
+    (w : Indexed (size .people) (size .levels) class may crowd reach) where
+  tables : TablesOf (jobIn size class rule) (size .levels) may crowd reach
+  tables =
+      tables-of w (jobIn size class rule) refl
+      (record {
+        depth = refl;
+        each = λ q u a b l. refl;
+        refining = given .refining;
+        few = given .few-people;
+        leads = given .leaders;
+      })
 
-lower-asks : (k limit n : ℕ) → 4 ≤ k → Asks (kindIn k) limit n → limit ≤ n
-lower-asks zero limit n l f = absurd (omega arith)
-lower-asks (suc zero) limit n l f = absurd (omega arith)
-lower-asks (suc (suc zero)) limit n l f = absurd (omega arith)
-lower-asks (suc (suc (suc zero))) limit n l f = absurd (omega arith)
-lower-asks (suc (suc (suc (suc k)))) limit n l f = f
+  -- the classes of a valid plan have somebody for the steps
+  manned : (π : ℕ → ℕ) → Valid (jobIn size class rule) (mayIn may) π → (q scope : ℕ) → 1 ≤ q → q ≤ size .levels
+      → Manned (size .steps) reach (q - 1) scope (λ s. classIn class q (π s))
+  manned π ok q scope from to s l h =
+      let e : suc (q - 1) ≡ q = omega arith in (
+        omega (
+          arith,
+          given .leaders q (π s) from to (ok .within s l),
+          leader-le (jobIn size class rule) q (π s),
+          ok .within s l,
+          given .few-people,
+        ),
+        subst (λ (x : ℕ). hasBit (getD reach ((q - 1) * 12 + s) 0) (classIn class x (π s)) ≡ true) e
+            (tables .reach-has (q - 1) s (π s) (omega arith) (omega (arith, given .ruled .few-steps)) (ok .within s l) (ok .authorised s l)),
+      )
 
-module _ {steps people levels rules : ℕ} {class kind level limit scope : List ℕ}
-    (given : Given steps people levels rules class kind level limit scope) where
-  pub bounded : Bounded steps rules kind level limit scope
-  bounded =
+  -- a lower limit that is not reached
+  pub existence-short : (plan : List ℕ) → length plan ≡ 12 → (r : Bool) → Limits (size .steps) (size .rules) rule reach r → not r ≡ true
+      → Existence (jobIn size class rule) (mayIn may) plan plan false
+  existence-short plan e r limits f =
+      let u = limits .unreached (not-true r f) in
+      let i = u .which in
+      let ok = given .ruled .rule-ok i (u .below) in
       record {
-        few-steps = given .few-steps;
-        few-rules = given .few-rules;
-        kinds = given .kinds;
-        levels = given .rule-levels;
-        limits = given .limits;
-        scopes = given .scopes;
-        from = λ i l. given .searchable .rule-ok i l .from;
-        to = λ i l. omega (arith, given .searchable .rule-ok i l .to, given .few-levels);
-        within = λ i l k. lower-fits (getD kind i 0) (getD limit i 0) (bitsSet steps (getD scope i 0)) k (given .searchable .rule-ok i l .fits);
+        sized = e;
+        won = λ t. true-false refl (sym t);
+        lost = λ t x.
+            u .short .short refl (λ s. classIn class (levelIn (getD rule i 0)) (x .0 s))
+            (manned (x .0) (x .1) (levelIn (getD rule i 0)) (scopeIn (getD rule i 0)) (ok .from) (ok .to)) (x .1 .eligible i (u .below) .least);
+        kept = λ t. refl;
       }
-
-  module _ (may : List ℕ) {crowd reach : List ℕ} (w : Tabled people levels class may crowd reach) where
-    tables : TablesOf (jobIn steps people levels class rules kind level limit scope) levels may crowd reach
-    tables =
-        tables-of w (jobIn steps people levels class rules kind level limit scope) refl
-        (record {
-          depth = refl;
-          each = λ q u a b l. refl;
-          refining = given .searchable .refining;
-          few = given .few-people;
-          leads = given .leaders;
-        })
-
-    -- the classes of a valid plan have somebody for the steps
-    manned : (π : ℕ → ℕ) → Valid (jobIn steps people levels class rules kind level limit scope) (mayIn may) π → (q i : ℕ) → 1 ≤ q → q ≤ levels
-        → Manned steps reach (q - 1) (getD scope i 0) (λ s. classIn class q (π s))
-    manned π ok q i from to s l h =
-        let e : suc (q - 1) ≡ q = omega arith in (
-          omega (
-            arith,
-            given .leaders q (π s) from to (ok .within s l),
-            leader-le (jobIn steps people levels class rules kind level limit scope) q (π s),
-            ok .within s l,
-            given .few-people,
-          ),
-          subst (λ (x : ℕ). hasBit (getD reach ((q - 1) * 12 + s) 0) (classIn class x (π s)) ≡ true) e
-              (tables .reach-has (q - 1) s (π s) (omega arith) (omega (arith, given .few-steps)) (ok .within s l) (ok .authorised s l)),
-        )
-
-    -- a lower limit that is not reached
-    pub existence-short : (plan : List ℕ) → length plan ≡ 12 → (r : Bool) → Limits steps rules kind level limit scope reach r → not r ≡ true
-        → Existence (jobIn steps people levels class rules kind level limit scope) (mayIn may) plan plan false
-    existence-short plan e r limits f =
-        let u = limits .unreached (not-true r f) in
-        let i = u .rule in
-        let ok = given .searchable .rule-ok i (u .below) in
-        record {
-          sized = e;
-          won = λ t. true-false refl (sym t);
-          lost = λ t x.
-              u .short (λ s. classIn class (getD level i 0) (x .0 s)) (manned (x .0) (x .1) (getD level i 0) i (ok .from) (ok .to))
-              (lower-asks (getD kind i 0) (getD limit i 0) (distinct steps (hasBit (getD scope i 0)) (λ s. classIn class (getD level i 0) (x .0 s)))
-              (u .lower) (x .1 .eligible i (u .below)));
-          kept = λ t. refl;
-        }

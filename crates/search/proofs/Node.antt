@@ -11,77 +11,68 @@ use Rattle.bits.proofs.Below.{by-cases, true-false}
 use Rattle.bits.proofs.Counting.{is-false}
 use Rattle.bits.proofs.SetLaws.{empty-lacks, part-le, full-has}
 use Rattle.workflow.specs.Problem.{Job, May, Rule, RuleOk}
+use Rattle.pattern.specs.declared.Size.{Size}
 use Rattle.pattern.specs.Pattern.{Label, Pattern, SamePattern}
 use Rattle.pattern.specs.Place.{withStep, grown, Way}
 use Rattle.pattern.specs.Eligible.{groupCount, openCount, Possible}
 use Rattle.pattern.specs.Realize.{Realized}
-use Rattle.pattern.specs.Tables.{mayIn, labelIn, jobIn}
+use Rattle.pattern.specs.Rule.{levelIn}
+use Rattle.pattern.specs.Tables.{mayIn, labelIn, ruleIn, jobIn}
 use Rattle.pattern.proofs.Place.{with-cases, grown-placed, grown-pattern}
 use Rattle.pattern.proofs.Same.{pattern-same, possible-same, exists-same}
 use Rattle.pattern.proofs.Counted.{open-count-outside, group-count-outside}
 use Rattle.pattern.proofs.Search.{exists-realized, exists-possible}
-use Rattle.eligible.specs.Rules.{Says, AllPossible, Ruled, Among, RuledAmong}
-use Rattle.eligible.proofs.Tests.{says-true, says-false}
-use Rattle.realize.specs.Parts.{Sized, Tabled, Known}
+use Rattle.bits.specs.Says.{Says}
+use Rattle.bits.proofs.Says.{says-true, says-false}
+use Rattle.eligible.specs.Rules.{Rules, Among}
+use Rattle.pattern.proofs.Given.{searchable}
+use Rattle.realize.specs.Parts.{Sized, Indexed, Known}
 use Rattle.realize.specs.Decision.{Realizable}
-use Rattle.levels.specs.Given.{Given}
+use Rattle.pattern.specs.Given.{Given}
 use Rattle.search.specs.Growth.{Placeable, Grows, Joins}
 use Rattle.search.specs.State.{Patterned, Passing, Touched, Spared, Kept, partner, depth, Growable, Grew}
 
-module _ {steps people levels rules : ℕ} {class kind level limit scope : List ℕ}
-    (given : Given steps people levels rules class kind level limit scope) (may : List ℕ) (placed : ℕ) (label : List ℕ) where
-  pub ruled : Patterned (jobIn steps people levels class rules kind level limit scope) placed label → Ruled steps rules kind level limit scope placed label
-  ruled p =
+module _ {size : Size} {class rule : List ℕ}
+    (given : Given size class rule) (may : List ℕ) (placed : ℕ) (label : List ℕ) where
+  -- the labels at the level of each rule of the job
+  pub rules-among : (among : ℕ) → Patterned (jobIn size class rule) placed label → ((i : ℕ) → hasBit among i ≡ true → i < size .rules)
+      → Rules (size .steps) among rule placed label
+  rules-among among p below =
       record {
-        most = given .few-rules;
-        kinds = given .kinds;
-        levels = given .rule-levels;
-        limits = given .limits;
-        scopes = given .scopes;
-        marked = λ i l.
-            let ok = given .searchable .rule-ok i l in
+        sized = given .ruled .sized;
+        marked = λ i h.
+            let ok = given .ruled .rule-ok i (below i h) in
             record {
-              few = given .few-steps;
+              few = given .ruled .few-steps;
               sized = p .sized;
               from = ok .from;
-              to = omega (arith, ok .to, given .few-levels);
+              to = omega (arith, ok .to, given .ruled .few-levels);
               below = p .inside;
-              labels = λ s h. p .pattern .labelled (getD level i 0) (ok .from) (ok .to) .below s (p .inside s h) h;
+              labels = λ s k. p .pattern .labelled (levelIn (getD rule i 0)) (ok .from) (ok .to) .below s (p .inside s k) k;
             };
       }
 
-  pub ruled-among : (among : ℕ) → Patterned (jobIn steps people levels class rules kind level limit scope) placed label
-      → Spared (jobIn steps people levels class rules kind level limit scope) among placed label → RuledAmong steps among kind level limit scope placed label
-  ruled-among among p w =
-      record {
-        kinds = given .kinds;
-        levels = given .rule-levels;
-        limits = given .limits;
-        scopes = given .scopes;
-        marked = λ i h. ruled p .marked i (w .below i h);
-      }
-
-  pub sized : {crowd reach : List ℕ} → length may ≡ 12 → Patterned (jobIn steps people levels class rules kind level limit scope) placed label
-      → Tabled people levels class may crowd reach → Sized levels may label crowd reach placed
+  pub sized : {crowd reach : List ℕ} → length may ≡ 12 → Patterned (jobIn size class rule) placed label
+      → Indexed (size .people) (size .levels) class may crowd reach → Sized (size .levels) may label crowd reach placed
   sized masks p w =
       record {
-        deep = given .few-levels;
+        deep = given .ruled .few-levels;
         masks = masks;
         labels = p .sized;
         crowds = w .crowds .sized;
         reaches = w .reaches .sized;
-        below = let l : placed ≤ 4095 = part-le placed 4095 (λ s h. let b = p .inside s h in full-has 12 s (omega (arith, given .few-steps))) in omega arith;
+        below = let l : placed ≤ 4095 = part-le placed 4095 (λ s h. let b = p .inside s h in full-has 12 s (omega (arith, given .ruled .few-steps))) in omega arith;
       }
 
-  pub known : Patterned (jobIn steps people levels class rules kind level limit scope) placed label
-      → Known (jobIn steps people levels class rules kind level limit scope) people levels class label placed
+  pub known : Patterned (jobIn size class rule) placed label
+      → Known (jobIn size class rule) (size .people) (size .levels) class label placed
   known p =
       record {
         crew = refl;
         classes = record {
           depth = refl;
           each = λ q u a b l. refl;
-          refining = given .searchable .refining;
+          refining = given .refining;
           few = given .few-people;
           leads = given .leaders;
         };
@@ -90,30 +81,30 @@ module _ {steps people levels rules : ℕ} {class kind level limit scope : List 
       }
 
   -- a rule cannot be met
-  pub passing-ruled-out : (among : ℕ) (r : Bool) → Spared (jobIn steps people levels class rules kind level limit scope) among placed label
-      → Says r (Among steps among 0 kind level limit scope placed label) → not r ≡ true
-      → Passing (jobIn steps people levels class rules kind level limit scope) (mayIn may) placed label false
+  pub passing-ruled-out : (among : ℕ) (r : Bool) → Spared (jobIn size class rule) among placed label
+      → Says r (Among (size .steps) among 0 rule placed label) → not r ≡ true
+      → Passing (jobIn size class rule) (mayIn may) placed label false
   passing-ruled-out among r w says f =
-      let n = says-false r (Among steps among 0 kind level limit scope placed label) says (not-true r f) in
+      let n = says-false r (Among (size .steps) among 0 rule placed label) says (not-true r f) in
       record {
         won = λ e. true-false refl (sym e);
         lost = λ e x. n (record {
           part = λ i h. true-false h (empty-lacks i);
-          possible = λ i h k. exists-possible (jobIn steps people levels class rules kind level limit scope) (mayIn may) (hasBit placed) (labelIn label) (given .searchable) x i (w .below i h);
+          possible = λ i h k. exists-possible (jobIn size class rule) (mayIn may) (hasBit placed) (labelIn label) (searchable given) x i (w .below i h);
         });
       }
 
-  pub passing-decided : (among : ℕ) (e r : Bool) → Patterned (jobIn steps people levels class rules kind level limit scope) placed label
-      → Spared (jobIn steps people levels class rules kind level limit scope) among placed label
-      → Says e (Among steps among 0 kind level limit scope placed label) → not e ≡ false → Realizable people levels class may label placed r
-      → Passing (jobIn steps people levels class rules kind level limit scope) (mayIn may) placed label r
-  passing-decided among e r p w possible f d =
-      let m = says-true e (Among steps among 0 kind level limit scope placed label) possible (not-false e f) in
-      let a : AllPossible steps rules kind level limit scope placed label
+  pub passing-decided : {crowd reach : List ℕ} → Indexed (size .people) (size .levels) class may crowd reach → (among : ℕ) (e r : Bool) → Patterned (jobIn size class rule) placed label
+      → Spared (jobIn size class rule) among placed label
+      → Says e (Among (size .steps) among 0 rule placed label) → not e ≡ false → Realizable (size .people) (size .levels) may label crowd reach placed r
+      → Passing (jobIn size class rule) (mayIn may) placed label r
+  passing-decided indexed among e r p w possible f d =
+      let m = says-true e (Among (size .steps) among 0 rule placed label) possible (not-false e f) in
+      let a : (i : ℕ) → i < size .rules → Possible (size .steps) (hasBit placed) (labelIn label) (ruleIn rule i)
       = λ i l. by-cases (hasBit among i) (λ h. m .possible i h (empty-lacks i)) (λ h. w .possible i l h)
       in
-      let j = jobIn steps people levels class rules kind level limit scope in
-      let says = d .says j (known p) in
+      let j = jobIn size class rule in
+      let says = d .says class indexed j (known p) in
       record {
         won = λ e. record { possible = a; realized = says-true r (Realized j (mayIn may) (labelIn label) 0 (hasBit placed) (λ p. true)) says e };
         lost = λ e x.

@@ -1,44 +1,43 @@
 -- Two rules that exclude each other: there is no valid plan. Assumes nothing.
-use mathlib.Core.Bool.{Bool, true, false, not, _&&_}
+use mathlib.Core.Bool.{true, false, not, _&&_}
 use mathlib.Core.List.{List}
-use mathlib.Core.Path.{_≡_, refl, sym, subst, ap, _∙_}
-use Prim.Native.Nat.{ℕ, _+_, _≤_, _<_}
+use mathlib.Core.Path.{_≡_, refl, ap}
+use Prim.Native.Nat.{ℕ, _+_, _≤_}
 use native.Mathlib.Omega.{arith}
 use lib.ListN.{length, getD}
 use Rattle.bits.specs.Below.{count}
 use Rattle.bits.specs.Word.{hasBit}
 use Rattle.bits.proofs.Below.{true-false}
 use Rattle.bits.proofs.Counting.{and-of}
-use Rattle.workflow.specs.Problem.{Job, May, Plan, Valid, Satisfiable, distinct, classCount}
-use Rattle.workflow.specs.Interval.{lowest, highest}
-use Rattle.workflow.proofs.Rules.{met-interval}
+use Rattle.workflow.specs.Problem.{Job, May, Satisfiable, distinct}
 use Rattle.workflow.proofs.Occurs.{distinct-scope-split}
-use Rattle.pattern.specs.Tables.{classIn, kindIn, jobIn}
-use Rattle.levels.specs.Given.{Given}
+use Rattle.pattern.specs.declared.Size.{Size}
+use Rattle.pattern.specs.Rule.{levelIn, scopeIn}
+use Rattle.pattern.specs.Tables.{classIn, jobIn}
 use Rattle.search.specs.Existence.{Existence}
 use Rattle.search.specs.Opposed.{Opposed}
 
-module _ {steps people levels rules : ℕ} {class kind level limit scope : List ℕ} (given : Given steps people levels rules class kind level limit scope)
-    (w : Opposed steps rules kind level limit scope) where
+module _ (size : Size) (class rule : List ℕ) (w : Opposed (size .steps) (size .rules) rule) where
   abbrev job : Job
-  job = jobIn steps people levels class rules kind level limit scope
+  job = jobIn size class rule
+
+  -- the scopes of the two rules
+  abbrev above : ℕ
+  above = scopeIn (getD rule (w .upper) 0)
+
+  abbrev under : ℕ
+  under = scopeIn (getD rule (w .lower) 0)
 
   none-opposed : (may : May) → Satisfiable job may → ⊥
   none-opposed may (π, v) =
-      let a : classCount job (job .rule (w .upper)) π ≤ highest (kindIn (getD kind (w .upper) 0)) (getD limit (w .upper) 0) steps
-      = met-interval job (job .rule (w .upper)) (given .searchable .rule-ok (w .upper) (w .upper-below)) π .0 (v .eligible (w .upper) (w .upper-below)) .most in
-      let b : lowest (kindIn (getD kind (w .lower) 0)) (getD limit (w .lower) 0) ≤ classCount job (job .rule (w .lower)) π
-      = met-interval job (job .rule (w .lower)) (given .searchable .rule-ok (w .lower) (w .lower-below)) π .0 (v .eligible (w .lower) (w .lower-below)) .least in
-      let d : distinct steps (hasBit (getD scope (w .lower) 0)) (λ s. classIn class (getD level (w .lower) 0) (π s))
-      ≤ distinct steps (hasBit (getD scope (w .upper) 0)) (λ s. classIn class (getD level (w .lower) 0) (π s))
-      + count steps (λ s. hasBit (getD scope (w .lower) 0) s && not (hasBit (getD scope (w .upper) 0) s))
-      = distinct-scope-split steps (λ s. classIn class (getD level (w .lower) 0) (π s)) (hasBit (getD scope (w .lower) 0)) (hasBit (getD scope (w .upper) 0))
-      (λ s. hasBit (getD scope (w .lower) 0) s && not (hasBit (getD scope (w .upper) 0) s))
-      (λ s l h o. and-of (hasBit (getD scope (w .lower) 0) s) _ h (ap not o)) in
-      let e : classCount job (job .rule (w .upper)) π ≡ distinct steps (hasBit (getD scope (w .upper) 0)) (λ s. classIn class (getD level (w .lower) 0) (π s))
-      = ap (λ (q : ℕ). distinct steps (hasBit (getD scope (w .upper) 0)) (λ s. classIn class q (π s))) (w .same) in
-      let f = w .fewer in
-      omega arith
+      let c : ℕ → ℕ = λ s. classIn class (levelIn (getD rule (w .lower) 0)) (π s) in
+      let d : distinct (size .steps) (hasBit under) c
+      ≤ distinct (size .steps) (hasBit above) c + count (size .steps) (λ s. hasBit under s && not (hasBit above s))
+      = distinct-scope-split (size .steps) c (hasBit under) (hasBit above) (λ s. hasBit under s && not (hasBit above s))
+      (λ s l h o. and-of (hasBit under s) _ h (ap not o)) in
+      let e : distinct (size .steps) (hasBit above) (λ s. classIn class (levelIn (getD rule (w .upper) 0)) (π s)) ≡ distinct (size .steps) (hasBit above) c
+      = ap (λ (q : ℕ). distinct (size .steps) (hasBit above) (λ s. classIn class q (π s))) (w .same) in
+      omega (arith, v .eligible (w .upper) (w .upper-below) .most, v .eligible (w .lower) (w .lower-below) .least, w .fewer)
 
   pub existence-opposed : (may : May) (plan : List ℕ) → length plan ≡ 12 → Existence job may plan plan false
   existence-opposed may plan l =

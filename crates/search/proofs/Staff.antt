@@ -1,19 +1,19 @@
 -- The people and steps that masks hold: the first person of a step, the steps that rules name. Assumes nothing.
-use mathlib.Core.Bool.{Bool, true, false, _&&_, _||_}
+use mathlib.Core.Bool.{true, false}
 use mathlib.Core.List.{List}
-use mathlib.Core.Path.{_≡_, refl, sym, subst, ap, _∙_}
-use Prim.Native.Nat.{ℕ, _+_, _*_, _%_, _^_, _≤_, _<_}
+use mathlib.Core.Path.{_≡_, sym, subst, _∙_}
+use Prim.Native.Nat.{ℕ, _+_, _≤_, _<_}
+use native.Mathlib.Nat.{not-suc-le-zero}
 use native.Mathlib.Omega.{arith}
-use lib.Bits.{bitOr}
 use lib.Dec.{eqb, ltb}
 use lib.ListN.{getD, set, length-set}
 use lib.Seq.{getD-set-same, getD-set-other}
-use borrow.Author.Tests.{eqb-true, eqb-false, ltb-true, ltb-false, lt-ltb}
+use borrow.Author.Tests.{eqb-true, eqb-false, ltb-true, ltb-false}
 use Rattle.bits.specs.Word.{hasBit}
-use Rattle.bits.proofs.Below.{by-cases, true-false, and-left}
-use Rattle.bits.proofs.SetLaws.{zero-empty, or-bit, mod-bit}
+use Rattle.bits.specs.Set.{Added}
+use Rattle.bits.proofs.Below.{by-cases, true-false}
+use Rattle.bits.proofs.SetLaws.{empty-lacks, zero-empty, added-has, added-other}
 use Rattle.pattern.specs.Tables.{planIn}
-use Rattle.eligible.proofs.Open.{span}
 use Rattle.search.specs.Existence.{Named, Foremost, AllStaffed, Spread}
 
 pub foremost-empty : (mask : ℕ) → mask ≡ 0 → Foremost mask 64
@@ -29,31 +29,33 @@ foremost-least {mask} {r} w p h = by-cases (ltb p r) (λ x. true-false h (w .bef
 pub foremost-nobody : (steps people s r : ℕ) (may : List ℕ) → Foremost (getD may s 0) r → people ≤ r → s < steps → AllStaffed steps people may → ⊥
 foremost-nobody steps people s r may w l below all = let x = all s below in omega (arith, x .1, foremost-least w (x .0) (x .2))
 
--- the rules passed name no step outside the mask
-abbrev pub Covered : ℕ → List ℕ → ℕ → Type 0
-Covered i scope all = (k s : ℕ) → k < i → hasBit all s ≡ false → hasBit (getD scope k 0) s ≡ false
+-- the steps that rules name, one after the other
+pub named-none : (of : List ℕ) → Named 0 of 0
+named-none of = record { below = λ s h. true-false h (empty-lacks s); covers = λ s l. absurd (not-suc-le-zero l) }
 
-or-neither : (a b : Bool) → a || b ≡ false → (a ≡ false) × (b ≡ false)
-or-neither true b h = true-false refl h
-or-neither false b h = (refl, h)
+module _ {n : ℕ} {of : List ℕ} {r : ℕ} (w : Named n of r) where
+  pub named-skip : getD of n 0 ≡ 0 → Named (n + 1) of r
+  named-skip e =
+      record {
+        below = λ s h. let l = w .below s h in omega arith;
+        covers = λ s l h.
+            by-cases (eqb s n)
+            (λ t. subst (λ (k : ℕ). getD of k 0 ≡ 0) (sym (eqb-true s n t)) e)
+            (λ t. let d = eqb-false s n t in w .covers s (omega arith) h);
+      }
 
-pub covered-more : (i all : ℕ) (scope : List ℕ) → Covered i scope all → Covered (i + 1) scope (bitOr all (getD scope i 0))
-covered-more i all scope w k s l h =
-    let x = or-neither (hasBit all s) _ (sym (or-bit all (getD scope i 0) s) ∙ h) in
-    by-cases (eqb k i)
-    (λ e. subst (λ (v : ℕ). hasBit (getD scope v 0) s ≡ false) (sym (eqb-true k i e)) (x .1))
-    (λ e. let n : k ≡ i → ⊥ = eqb-false k i e in w k s (omega arith) (x .0))
-
-pub covered-all : (steps rules i all : ℕ) (scope : List ℕ) → steps ≤ 12 → rules ≤ i → Covered i scope all
-    → Named steps rules scope (all % (1 * 2 ^ steps % 65536))
-covered-all steps rules i all scope few l w =
-    subst (λ (n : ℕ). Named steps rules scope (all % n)) (sym (span steps few))
-    (record {
-      below = λ s h. ltb-true s steps (and-left (ltb s steps) _ (sym (mod-bit steps all s) ∙ h));
-      covers = λ k s a b h.
-          w k s (omega arith)
-          (ap (λ (x : Bool). x && hasBit all s) (sym (lt-ltb s steps b)) ∙ sym (mod-bit steps all s) ∙ h);
-    })
+  pub named-take : {r′ : ℕ} → Added r n r′ → Named (n + 1) of r′
+  named-take {r′} more =
+      record {
+        below = λ s h.
+            by-cases (eqb s n)
+            (λ t. let e = eqb-true s n t in omega arith)
+            (λ t. let l = w .below s (sym (added-other more s (eqb-false s n t)) ∙ h) in omega arith);
+        covers = λ s l h.
+            by-cases (eqb s n)
+            (λ t. true-false (added-has more) (subst (λ (k : ℕ). hasBit r′ k ≡ false) (eqb-true s n t) h))
+            (λ t. let d = eqb-false s n t in w .covers s (omega arith) (sym (added-other more s d) ∙ h));
+      }
 
 pub spread-more : (s p : ℕ) (may plan : List ℕ) → s < 12 → Foremost (getD may s 0) p → Spread s may plan → Spread (s + 1) may (set plan s p)
 spread-more s p may plan l f w =

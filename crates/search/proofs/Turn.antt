@@ -13,6 +13,7 @@ use Rattle.bits.specs.Set.{Added, Removed}
 use Rattle.bits.proofs.Below.{by-cases, true-false}
 use Rattle.bits.proofs.SetLaws.{zero-empty, added-has, added-keeps, added-other, removed-other, removed-was, removed-differs}
 use Rattle.workflow.specs.Problem.{Job, May, RuleOk}
+use Rattle.pattern.specs.declared.Size.{Size}
 use Rattle.pattern.specs.Pattern.{Refining}
 use Rattle.pattern.specs.Place.{withStep, grown}
 use Rattle.pattern.specs.Search.{Exists}
@@ -20,8 +21,8 @@ use Rattle.pattern.specs.Tables.{labelIn, jobIn}
 use Rattle.pattern.proofs.Place.{with-cases, grown-old, grown-joined, grown-apart}
 use Rattle.pattern.proofs.Same.{pattern-same, possible-same, exists-same}
 use Rattle.pattern.proofs.Search.{exists-grown}
-use Rattle.levels.specs.Given.{Given}
-use Rattle.narrow.specs.Domains.{Naming}
+use Rattle.pattern.specs.Given.{Given}
+use Rattle.levels.specs.Tabled.{Naming}
 use Rattle.search.specs.Growth.{Joins}
 use Rattle.search.specs.State.{Touched, Reached, Outcome, partner, depth, ByWay, Growable, Grew, Tried}
 
@@ -213,7 +214,7 @@ module _ {j : Job} {may : May} {placed rest next left s : ℕ} {label : List ℕ
           may x)
 
 -- the rules that name a step, by the table
-pub named-touched : {steps people levels rules : ℕ} {class kind level limit scope of : List ℕ} {s : ℕ}
-    → Given steps people levels rules class kind level limit scope → Naming rules scope of → s < 12
-    → Touched (jobIn steps people levels class rules kind level limit scope) (getD of s 0) s
+pub named-touched : {size : Size} {class rule of : List ℕ} {s : ℕ}
+    → Given size class rule → Naming (size .rules) rule of → s < 12
+    → Touched (jobIn size class rule) (getD of s 0) s
 named-touched {s = s} g w l = record { below = λ i h. w .below i s l h; all = λ i k h. w .has i s k l h }

@@ -8,10 +8,10 @@ use Rattle.bits.specs.Word.{hasBit}
 use Rattle.workflow.specs.Problem.{Job, May, Valid, Satisfiable}
 use Rattle.pattern.specs.Tables.{mayIn, planIn}
 
--- r is a set of steps, and every step that a rule names is in it
-pub record Named (steps rules : ℕ) (scope : List ℕ) (r : ℕ) : Type 0 where
+-- r is a set of steps, and every step that a rule names is in it: `of` has the rules that name each step
+pub record Named (steps : ℕ) (of : List ℕ) (r : ℕ) : Type 0 where
   pub below : (s : ℕ) → hasBit r s ≡ true → s < steps
-  pub covers : (i s : ℕ) → i < rules → s < steps → hasBit r s ≡ false → hasBit (getD scope i 0) s ≡ false
+  pub covers : (s : ℕ) → s < steps → hasBit r s ≡ false → getD of s 0 ≡ 0
 
 -- r is the first person of a mask, and 64 where there is none
 pub record Foremost (mask r : ℕ) : Type 0 where

@@ -24,10 +24,3 @@ pub record Grows (levels s t d : ℕ) (label label′ : List ℕ) : Type 0 where
 pub record Joins (placed : ℕ) (label : List ℕ) (t d : ℕ) : Type 0 where
   pub among : 1 ≤ d → hasBit placed t ≡ true
   pub leads : 1 ≤ d → labelIn label d t ≡ t
-
--- some step is open, and the open steps have numbers of ways and weights
-pub record Choosable (ways weight : List ℕ) (left : ℕ) : Type 0 where
-  pub counts : length ways ≡ 12
-  pub weights : length weight ≡ 12
-  pub some : left ≡ 0 → ⊥
-  pub below : (s : ℕ) → hasBit left s ≡ true → s < 12

@@ -4,8 +4,9 @@ use mathlib.Core.List.{List}
 use mathlib.Core.Path.{_≡_}
 use Prim.Native.Nat.{ℕ, _+_, _*_, _-_, _≤_, _<_}
 use lib.ListN.{length, getD}
-use Rattle.bits.specs.Word.{hasBit, bitsSet}
+use Rattle.bits.specs.Word.{hasBit}
 use Rattle.workflow.specs.Problem.{distinct}
+use Rattle.pattern.specs.Rule.{levelIn, leastIn, scopeIn}
 
 -- all has the classes of level q + 1 of those steps of the scope that are below n
 pub record Gathering (n : ℕ) (reach : List ℕ) (q scope all : ℕ) : Type 0 where
@@ -33,30 +34,16 @@ pub record Edges (n : ℕ) (reach : List ℕ) (q extra : ℕ) (edges : List ℕ)
 abbrev pub Manned : ℕ → List ℕ → ℕ → ℕ → (ℕ → ℕ) → Type 0
 Manned steps reach q scope c = (s : ℕ) → s < steps → hasBit scope s ≡ true → (c s < 64) × (hasBit (getD reach (q * 12 + s) 0) (c s) ≡ true)
 
--- where the answer is no, no such classes reach the limit
-pub record Reaching (steps : ℕ) (reach : List ℕ) (q limit scope : ℕ) (r : Bool) : Type 0 where
-  pub short : r ≡ false → (c : ℕ → ℕ) → Manned steps reach q scope c → limit ≤ distinct steps (hasBit scope) c → ⊥
+-- where the answer is no, no such classes reach the least count of a rule
+pub record Reaching (steps : ℕ) (reach : List ℕ) (r : ℕ) (b : Bool) : Type 0 where
+  pub short : b ≡ false → (c : ℕ → ℕ) → Manned steps reach (levelIn r - 1) (scopeIn r) c → leastIn r ≤ distinct steps (hasBit (scopeIn r)) c → ⊥
 
--- the arrays of the rules; each lower limit is at most the size of its scope
-pub record Bounded (steps rules : ℕ) (kind level limit scope : List ℕ) : Type 0 where
-  pub few-steps : steps ≤ 12
-  pub few-rules : rules ≤ 64
-  pub kinds : length kind ≡ 64
-  pub levels : length level ≡ 64
-  pub limits : length limit ≡ 64
-  pub scopes : length scope ≡ 64
-  pub from : (i : ℕ) → i < rules → 1 ≤ getD level i 0
-  pub to : (i : ℕ) → i < rules → getD level i 0 ≤ 3
-  pub within : (i : ℕ) → i < rules → 4 ≤ getD kind i 0 → getD limit i 0 ≤ bitsSet steps (getD scope i 0)
-
--- a lower limit that no classes reach
-pub record Unreached (steps rules : ℕ) (kind level limit scope reach : List ℕ) : Type 0 where
-  pub rule : ℕ
-  pub below : rule < rules
-  pub lower : 4 ≤ getD kind rule 0
-  pub short : (c : ℕ → ℕ) → Manned steps reach (getD level rule 0 - 1) (getD scope rule 0) c
-      → getD limit rule 0 ≤ distinct steps (hasBit (getD scope rule 0)) c → ⊥
+-- a rule whose least count no classes reach
+pub record Unreached (steps rules : ℕ) (rule reach : List ℕ) : Type 0 where
+  pub which : ℕ
+  pub below : which < rules
+  pub short : Reaching steps reach (getD rule which 0) false
 
 -- where the answer is no, there is one
-pub record Limits (steps rules : ℕ) (kind level limit scope reach : List ℕ) (r : Bool) : Type 0 where
-  pub unreached : r ≡ false → Unreached steps rules kind level limit scope reach
+pub record Limits (steps rules : ℕ) (rule reach : List ℕ) (r : Bool) : Type 0 where
+  pub unreached : r ≡ false → Unreached steps rules rule reach

@@ -1,96 +1,74 @@
 // The search: each way to place an open step, and the search from there.
-use super::choose::blame;
 use super::choose::next_step;
+use super::grow::Placing;
 use super::grow::grow;
+use super::weights::blame;
 use bits::small::with;
 use bits::small::without;
-use levels::Size;
+use pattern::Size;
 ghost use mathlib.Core.Path.{_≡_};
+ghost use Prim.Native.Nat.{_*_};
 ghost use lib.ListN.{length};
+ghost use Rattle.levels.specs.Tabled.{Tabled};
 ghost use Rattle.pattern.specs.Tables.{mayIn, jobIn};
-ghost use Rattle.narrow.specs.Domains.{Naming};
-ghost use Rattle.realize.specs.Parts.{Tabled};
-ghost use Rattle.levels.specs.Given.{Given};
+ghost use Rattle.realize.specs.Parts.{Reachable};
 ghost use Rattle.search.specs.State.{Reached, Outcome};
 
-// Places the steps of `rest`, those that a rule names, and says whether that can be done. If not, no
-// valid plan has the pattern of the placed steps, whose labels are as they were. `of` has the rules
-// that name each step.
+// The steps placed, and those that a rule names and that are still to be placed.
+pub struct Front {
+    pub placed: u16,
+    pub rest: u16,
+}
+
+// Places the steps that are left and says whether that can be done. If not, no valid plan has the pattern of
+// the placed steps, whose labels are as they were.
 pub fn find(
     size: Size,
     class: &[u8; 192],
-    kind: &[u8; 64],
-    level: &[u8; 64],
-    limit: &[u8; 64],
-    scope: &[u16; 64],
-    may: &[u64; 12],
     crowd: &[u64; 192],
-    reach: &[u64; 36],
+    rule: &[u32; 64],
     of: &[u64; 12],
-    placed: u16,
-    rest: u16,
+    may: &[u64; 12],
+    reach: &[u64; 36],
+    front: Front,
     label: &mut [u8; 36],
     weight: &mut [u32; 12],
 ) -> bool
-    requires { ⌜ Given (size .steps) (size .people) (size .levels) (size .rules) (now class) (now kind) (now level) (now limit) (now scope)
-        × (length (now may) ≡ 12) × (length (now weight) ≡ 12)
-        × Reached (jobIn (size .steps) (size .people) (size .levels) (now class) (size .rules) (now kind) (now level) (now limit) (now scope)) (mayIn (now may)) placed rest (now label)
-        × Tabled (size .people) (size .levels) (now class) (now may) (now crowd) (now reach) × Naming (size .rules) (now scope) (now of) ⌝ }
-    ensures { λ r. ⌜ Outcome (jobIn (size .steps) (size .people) (size .levels) (now (class .entry)) (size .rules) (now (kind .entry)) (now (level .entry)) (now (limit .entry)) (now (scope .entry)))
-        (mayIn (now (may .entry))) placed rest (now (label .entry)) (now (label .exit)) r × (length (now (weight .exit)) ≡ 12) ⌝ }
+    requires { ⌜ Tabled size (now class) (now crowd) (now rule) (now of) × (length (now may) ≡ 12) × (length (now weight) ≡ 12)
+        × Reached (jobIn size (now class) (now rule)) (mayIn (now may)) (front .placed) (front .rest) (now label)
+        × Reachable (size .people) (now class) (now may) (size .levels * 12) (now reach) ⌝ }
+    ensures { λ r. ⌜ Outcome (jobIn size (now (class .entry)) (now (rule .entry))) (mayIn (now (may .entry))) (front .placed) (front .rest) (now (label .entry)) (now (label .exit)) r
+        × (length (now (weight .exit)) ≡ 12) ⌝ }
 {
-    if rest == 0 {
+    if front.rest == 0 {
         return true;
     }
-    let s = next_step(
-        size,
-        kind,
-        level,
-        limit,
-        scope,
-        reach,
-        placed,
-        rest,
-        label,
-        weight,
-    );
-    let next = with(placed, s);
-    let left = without(rest, s);
+    let s = next_step(size, rule, reach, front.placed, front.rest, label, weight);
+    let next = Front {
+        placed: with(front.placed, s),
+        rest: without(front.rest, s),
+    };
     let among = of[s];
     let ways = size.levels * 12 + 1;
     for w in 0..ways {
-        if !grow(
-            size,
-            class,
-            kind,
-            level,
-            limit,
-            scope,
-            may,
-            crowd,
-            reach,
-            among,
-            placed,
-            next,
-            s,
-            w,
-            label,
-        ) {
+        let placing = Placing {
+            placed: front.placed,
+            next: next.placed,
+            step: s,
+            way: w,
+        };
+        if !grow(size, class, crowd, rule, may, reach, among, placing, label) {
             continue;
         }
         if find(
             size,
             class,
-            kind,
-            level,
-            limit,
-            scope,
-            may,
             crowd,
-            reach,
+            rule,
             of,
+            may,
+            reach,
             next,
-            left,
             label,
             weight,
         ) {

@@ -1,11 +1,14 @@
-// The pattern search of document 004, section 3.
-pub mod choose;
+// Whether a job has a valid plan. `exists` has the order of the attempts; `refute` looks at each level by
+// itself, and `patterns` searches through the groupings of all levels.
+mod choose;
 pub mod exists;
-pub mod find;
-pub mod grow;
-pub mod limits;
-pub mod meet;
+mod find;
+mod grow;
+mod limits;
+mod meet;
 mod opposed;
-pub mod place;
-pub mod thorough;
+mod patterns;
+mod place;
+mod refute;
 mod ways;
+pub mod weights;

@@ -1,18 +1,17 @@
-// A test of the lower limits, once for a search: where a rule asks for `limit` classes over the steps of
+// A test of the lower limits, once for a search: where a rule asks for so many classes over the steps of
 // its scope, so many of these steps can be given different classes that have somebody for them.
-use bits::set::lowest;
-use bits::set::with;
-use bits::set::without;
+use bits::set;
 use bits::small;
 use matching::assign;
+use pattern::Size;
+use pattern::rule;
 ghost use mathlib.Core.Path.{_≡_};
-ghost use Prim.Native.Nat.{_≤_, _<_};
+ghost use Prim.Native.Nat.{_^_, _≤_, _<_};
 ghost use lib.ListN.{length};
 ghost use Rattle.bits.specs.Word.{bitsSet};
-ghost use Rattle.search.specs.Limits.{Gathering, Extras, Edges, Reaching, Bounded, Limits};
-
-// All classes.
-const ALL: u64 = 0xffff_ffff_ffff_ffff;
+ghost use Rattle.pattern.specs.Given.{Ruled};
+ghost use Rattle.pattern.specs.Rule.{levelIn, leastIn, scopeIn};
+ghost use Rattle.search.specs.Limits.{Gathering, Extras, Edges, Reaching, Limits};
 
 // Classes that are to spare: whether there are enough, and then a mask of them.
 pub struct Spares {
@@ -39,7 +38,7 @@ fn classes_of(steps: usize, reach: &[u64; 36], q: usize, scope: u16) -> u64
 fn extra_classes(all: u64, spare: usize) -> Spares
     ensures { λ r. ⌜ Extras all spare (r .enough) (r .mask) ⌝ }
 {
-    let mut free = (all | ALL) ^ all;
+    let mut free = (all | set::ALL) ^ all;
     let mut mask: u64 = 0;
     for i in 0..spare {
         if free == 0 {
@@ -48,9 +47,9 @@ fn extra_classes(all: u64, spare: usize) -> Spares
                 mask: 0,
             };
         }
-        let c = lowest(free);
-        free = without(free, c);
-        mask = with(mask, c);
+        let c = set::lowest(free);
+        free = set::without(free, c);
+        mask = set::with(mask, c);
     }
     Spares {
         enough: true,
@@ -70,47 +69,36 @@ fn edges_of(steps: usize, reach: &[u64; 36], q: usize, extra: u64) -> [u64; 12]
     edges
 }
 
-// Whether `limit` steps of the scope can be given different classes of level `q` + 1: the others have
+// Whether as many steps of a rule's scope as its least count can be given different classes: the others have
 // extra classes then. Where there are not so many classes to spare, nothing is said.
-fn reaches_limit(steps: usize, reach: &[u64; 36], q: usize, limit: usize, scope: u16) -> bool
-    requires { ⌜ (steps ≤ 12) × (length (now reach) ≡ 36) × (q < 3) × (limit ≤ bitsSet steps scope) ⌝ }
-    ensures { λ r. ⌜ Reaching steps (now (reach .entry)) q limit scope r ⌝ }
+fn reaches_least(steps: usize, reach: &[u64; 36], r: u32) -> bool
+    requires { ⌜ (steps ≤ 12) × (length (now reach) ≡ 36) × (1 ≤ levelIn r) × (levelIn r ≤ 3) × (scopeIn r < 2 ^ steps) × (leastIn r ≤ bitsSet steps (scopeIn r)) ⌝ }
+    ensures { λ b. ⌜ Reaching steps (now (reach .entry)) r b ⌝ }
 {
-    let groups = scope % (1 << steps);
+    let scope = rule::scope(r);
+    let q = rule::level(r) - 1;
     let all = classes_of(steps, reach, q, scope);
-    let extra = extra_classes(all, u16::count_ones(groups) as usize - limit);
+    let extra = extra_classes(all, u16::count_ones(scope) as usize - rule::least(r));
     if !extra.enough {
         return true;
     }
     let edges = edges_of(steps, reach, q, extra.mask);
-    let cover = assign(&edges, groups);
+    let cover = assign(&edges, scope);
     cover.found
 }
 
-// Whether each lower limit can be reached.
-pub fn limits_reached(
-    steps: usize,
-    rules: usize,
-    kind: &[u8; 64],
-    level: &[u8; 64],
-    limit: &[u8; 64],
-    scope: &[u16; 64],
-    reach: &[u64; 36],
-) -> bool
-    requires { ⌜ Bounded steps rules (now kind) (now level) (now limit) (now scope) × (length (now reach) ≡ 36) ⌝ }
-    ensures { λ r. ⌜ Limits steps rules (now (kind .entry)) (now (level .entry)) (now (limit .entry)) (now (scope .entry)) (now (reach .entry)) r ⌝ }
+// Whether each lower limit can be reached. Those of one class and of two are left to the search.
+pub fn limits_reached(size: Size, rule: &[u32; 64], reach: &[u64; 36]) -> bool
+    requires { ⌜ Ruled size (now rule) × (length (now reach) ≡ 36) ⌝ }
+    ensures { λ r. ⌜ Limits (size .steps) (size .rules) (now (rule .entry)) (now (reach .entry)) r ⌝ }
 {
+    let rules = size.rules;
     for i in 0..rules {
-        if kind[i] < 4 {
+        let r = rule[i];
+        if rule::least(r) < 3 {
             continue;
         }
-        if !reaches_limit(
-            steps,
-            reach,
-            (level[i] - 1) as usize,
-            limit[i] as usize,
-            scope[i],
-        ) {
+        if !reaches_least(size.steps, reach, r) {
             return false;
         }
     }

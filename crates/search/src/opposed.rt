@@ -1,54 +1,36 @@
 // Rules that exclude each other: a scope has at most the classes of another, and one more for each step
 // outside that one. So an upper limit on the one can be too low for a lower limit on the other.
-use eligible::least;
-use eligible::most;
 use eligible::open_count;
+use pattern::Size;
+use pattern::rule;
 ghost use mathlib.Core.Bool.{true};
 ghost use mathlib.Core.Path.{_≡_};
 ghost use Prim.Native.Nat.{_<_};
-ghost use Rattle.search.specs.Limits.{Bounded};
+ghost use Rattle.pattern.specs.Given.{Ruled};
 ghost use Rattle.search.specs.Opposed.{Opposed};
 
 // Whether rule `i` leaves rule `k` too few classes.
-fn excludes(
-    steps: usize,
-    rules: usize,
-    kind: &[u8; 64],
-    level: &[u8; 64],
-    limit: &[u8; 64],
-    scope: &[u16; 64],
-    i: usize,
-    k: usize,
-) -> bool
-    requires { ⌜ Bounded steps rules (now kind) (now level) (now limit) (now scope) × (i < rules) × (k < rules) ⌝ }
-    ensures { λ r. ⌜ (r ≡ true → Opposed steps rules (now (kind .entry)) (now (level .entry)) (now (limit .entry)) (now (scope .entry))) ⌝ }
+fn excludes(size: Size, rule: &[u32; 64], i: usize, k: usize) -> bool
+    requires { ⌜ Ruled size (now rule) × (i < size .rules) × (k < size .rules) ⌝ }
+    ensures { λ r. ⌜ (r ≡ true → Opposed (size .steps) (size .rules) (now (rule .entry))) ⌝ }
 {
-    if level[i] != level[k] {
+    let upper = rule[i];
+    let lower = rule[k];
+    if rule::level(upper) != rule::level(lower) {
         return false;
     }
-    let asked = least(kind[k], limit[k]) as usize;
-    let outside = open_count(steps, scope[k], scope[i]);
-    if asked <= outside {
-        return false;
-    }
-    most(kind[i], limit[i], steps) < asked - outside
+    let outside = open_count(size.steps, rule::scope(lower), rule::scope(upper));
+    rule::most(upper) + outside < rule::least(lower)
 }
 
 // Whether rule `i` leaves some rule too few classes.
-fn excludes_some(
-    steps: usize,
-    rules: usize,
-    kind: &[u8; 64],
-    level: &[u8; 64],
-    limit: &[u8; 64],
-    scope: &[u16; 64],
-    i: usize,
-) -> bool
-    requires { ⌜ Bounded steps rules (now kind) (now level) (now limit) (now scope) × (i < rules) ⌝ }
-    ensures { λ r. ⌜ (r ≡ true → Opposed steps rules (now (kind .entry)) (now (level .entry)) (now (limit .entry)) (now (scope .entry))) ⌝ }
+fn excludes_some(size: Size, rule: &[u32; 64], i: usize) -> bool
+    requires { ⌜ Ruled size (now rule) × (i < size .rules) ⌝ }
+    ensures { λ r. ⌜ (r ≡ true → Opposed (size .steps) (size .rules) (now (rule .entry))) ⌝ }
 {
+    let rules = size.rules;
     for k in 0..rules {
-        if excludes(steps, rules, kind, level, limit, scope, i, k) {
+        if excludes(size, rule, i, k) {
             return true;
         }
     }
@@ -56,19 +38,13 @@ fn excludes_some(
 }
 
 // Whether two rules exclude each other.
-pub fn opposed(
-    steps: usize,
-    rules: usize,
-    kind: &[u8; 64],
-    level: &[u8; 64],
-    limit: &[u8; 64],
-    scope: &[u16; 64],
-) -> bool
-    requires { ⌜ Bounded steps rules (now kind) (now level) (now limit) (now scope) ⌝ }
-    ensures { λ r. ⌜ (r ≡ true → Opposed steps rules (now (kind .entry)) (now (level .entry)) (now (limit .entry)) (now (scope .entry))) ⌝ }
+pub fn opposed(size: Size, rule: &[u32; 64]) -> bool
+    requires { ⌜ Ruled size (now rule) ⌝ }
+    ensures { λ r. ⌜ (r ≡ true → Opposed (size .steps) (size .rules) (now (rule .entry))) ⌝ }
 {
+    let rules = size.rules;
     for i in 0..rules {
-        if excludes_some(steps, rules, kind, level, limit, scope, i) {
+        if excludes_some(size, rule, i) {
             return true;
         }
     }

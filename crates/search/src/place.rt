@@ -5,7 +5,7 @@ ghost use mathlib.Core.Bool.{cond};
 ghost use Prim.Native.Nat.{_+_, _*_, _≤_, _<_};
 ghost use lib.Dec.{ltb};
 ghost use lib.ListN.{length, getD};
-ghost use Rattle.eligible.specs.Rules.{Says};
+ghost use Rattle.bits.specs.Says.{Says};
 ghost use Rattle.search.specs.Growth.{Placeable, Grows, Joins};
 
 // Whether step `t` is the label of a group of level `d`; with `d` 0 there is none to join.

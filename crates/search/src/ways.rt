@@ -1,14 +1,14 @@
 // How many ways each open step has left, by the rules alone. A step with few ways is placed next, so that
 // a search which fails does so early. No promise rests on it.
 use bits::small;
-use eligible::least;
-use eligible::most;
-use levels::Size;
+use pattern::Size;
+use pattern::rule;
 use realize::parts::groups_of;
 ghost use mathlib.Core.Path.{_≡_};
 ghost use Prim.Native.Nat.{_<_, _≤_};
 ghost use lib.ListN.{length};
-ghost use Rattle.search.specs.Limits.{Bounded};
+ghost use Rattle.pattern.specs.Given.{Ruled};
+ghost use Rattle.pattern.specs.Rule.{levelIn};
 
 // Any label.
 const ANY: u16 = 0xffff;
@@ -34,13 +34,6 @@ fn within(scope: u16, steps: u16) -> u16
     scope % 4096 & steps
 }
 
-// How many elements a set has.
-fn number(set: u16) -> u32
-    ensures { λ r. ⌜ r ≤ 16 ⌝ }
-{
-    u16::count_ones(set)
-}
-
 // Leaves some steps only such labels.
 fn leave(steps: u16, top: usize, labels: u16, free: &mut [u16; 36])
     requires { ⌜ (steps < 4096) × (top ≤ 24) × (length (now free) ≡ 36) ⌝ }
@@ -56,61 +49,36 @@ fn leave(steps: u16, top: usize, labels: u16, free: &mut [u16; 36])
 
 // The labels that a rule leaves to its open steps: at its upper end those that its placed steps have, at
 // its lower end the others.
-fn by_rule(
-    steps: usize,
-    kind: u8,
-    limit: u8,
-    top: usize,
-    scope: u16,
-    placed: u16,
-    label: &[u8; 36],
-    free: &mut [u16; 36],
-)
-    requires { ⌜ (top ≤ 24) × (length (now label) ≡ 36) × (length (now free) ≡ 36) ⌝ }
+fn by_rule(r: u32, placed: u16, label: &[u8; 36], free: &mut [u16; 36])
+    requires { ⌜ (1 ≤ levelIn r) × (levelIn r ≤ 3) × (length (now label) ≡ 36) × (length (now free) ≡ 36) ⌝ }
     ensures { λ _. ⌜ length (now (free .exit)) ≡ 36 ⌝ }
 {
+    let scope = rule::scope(r);
     let left = within(scope, placed ^ ANY);
     if left == 0 {
         return;
     }
+    let top = (rule::level(r) - 1) * 12;
     let labels = labels_of(within(scope, placed), top, label);
-    let groups = number(labels) as usize;
-    if groups >= most(kind, limit, steps) {
+    let groups = small::size(labels);
+    if groups >= rule::most(r) {
         leave(left, top, labels, free);
         return;
     }
-    if groups + number(left) as usize > least(kind, limit) as usize {
+    if groups + small::size(left) > rule::least(r) {
         return;
     }
     leave(left, top, labels ^ ANY, free);
 }
 
 // The labels that all rules leave to the open steps.
-fn by_rules(
-    size: Size,
-    kind: &[u8; 64],
-    level: &[u8; 64],
-    limit: &[u8; 64],
-    scope: &[u16; 64],
-    placed: u16,
-    label: &[u8; 36],
-    free: &mut [u16; 36],
-)
-    requires { ⌜ Bounded (size .steps) (size .rules) (now kind) (now level) (now limit) (now scope) × (length (now label) ≡ 36) × (length (now free) ≡ 36) ⌝ }
+fn by_rules(size: Size, rule: &[u32; 64], placed: u16, label: &[u8; 36], free: &mut [u16; 36])
+    requires { ⌜ Ruled size (now rule) × (length (now label) ≡ 36) × (length (now free) ≡ 36) ⌝ }
     ensures { λ _. ⌜ length (now (free .exit)) ≡ 36 ⌝ }
 {
     let rules = size.rules;
     for i in 0..rules {
-        by_rule(
-            size.steps,
-            kind[i],
-            limit[i],
-            (level[i] - 1) as usize * 12,
-            scope[i],
-            placed,
-            label,
-            free,
-        );
+        by_rule(rule[i], placed, label, free);
     }
 }
 
@@ -175,7 +143,7 @@ fn ways_of(
     let mut ways: u32 = 0;
     for k in 0..levels {
         let q = levels - 1 - k;
-        ways += number(joined(reach, free, label, q, s, heads[q] % 4096));
+        ways += small::size(joined(reach, free, label, q, s, heads[q] % 4096)) as u32;
         if !small::has(free[q * 12 + s], s) {
             return ways;
         }
@@ -220,21 +188,17 @@ fn counted(
 // How many ways each open step has left.
 pub fn ways_left(
     size: Size,
-    kind: &[u8; 64],
-    level: &[u8; 64],
-    limit: &[u8; 64],
-    scope: &[u16; 64],
+    rule: &[u32; 64],
     reach: &[u64; 36],
     placed: u16,
     rest: u16,
     label: &[u8; 36],
 ) -> [u32; 12]
-    requires { ⌜ Bounded (size .steps) (size .rules) (now kind) (now level) (now limit) (now scope) × (size .levels ≤ 3) × (placed < 4096) × (rest < 4096)
-        × (length (now reach) ≡ 36) × (length (now label) ≡ 36) ⌝ }
+    requires { ⌜ Ruled size (now rule) × (placed < 4096) × (rest < 4096) × (length (now reach) ≡ 36) × (length (now label) ≡ 36) ⌝ }
     ensures { λ r. ⌜ length r ≡ 12 ⌝ }
 {
     let mut free = [ANY; 36];
-    by_rules(size, kind, level, limit, scope, placed, label, &mut free);
+    by_rules(size, rule, placed, label, &mut free);
     let heads = heads_of(size.levels, placed, label);
     counted(size.levels, reach, &free, label, &heads, rest)
 }

@@ -54,8 +54,3 @@ answer s (fault f c) = record { reading = Refused f c; job = noJob }
 -- what the reader gives for a byte list
 abbrev pub sheetOf : List ℕ → Sheet
 sheetOf s = answer s (readSheet s)
-
--- "The returned number is 0, or refusal × 256 + card."
-abbrev pub numberOf : Reading → ℕ
-numberOf (Readable people steps rules) = 0
-numberOf (Refused f c) = f * 256 + c

@@ -1,3 +1,4 @@
 pub mod Masks
 pub mod Leaders
 pub mod Same
+pub mod Posing

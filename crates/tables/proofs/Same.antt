@@ -1,31 +1,36 @@
--- The arrays pose the problem of the sheet: the same plans are valid, and the first one is the same. Assumes nothing.
-use mathlib.Core.Bool.{Bool, true, _&&_}
+-- The arrays pose the problem of the sheet: the same plans are valid. Assumes nothing.
+use mathlib.Core.Bool.{Bool, _&&_}
 use mathlib.Core.List.{List}
 use mathlib.Core.Path.{_≡_, refl, sym, _∙_, ap, subst}
-use Prim.Native.Nat.{ℕ, zero, suc, _+_, _*_, _-_, _<_, _≤_}
+use Prim.Native.Nat.{ℕ, zero, suc, _+_, _^_, _<_, _≤_}
 use native.Mathlib.Omega.{arith}
-use native.Mathlib.Nat.{zero-add}
 use lib.Dec.{eqb, ltb}
-use lib.ListN.{getD}
+use native.Mathlib.Nat.{not-suc-le-zero}
+use native.Mathlib.Numerals.{add-one}
+use lib.ListN.{length, getD, set, length-set}
+use lib.Seq.{getD-set-same, getD-set-other}
 use borrow.Author.Tests.{eqb-true, eq-eqb, lt-ltb, ltb-true, ltb-false, ne-eqb}
-use Rattle.bits.specs.Below.{first}
+use Rattle.bits.specs.Below.{count, first}
 use Rattle.bits.specs.Word.{hasBit}
-use Rattle.bits.proofs.Below.{first-cong, first-has, first-none, first-unique, by-cases, true-false}
-use Rattle.bits.proofs.Counting.{bool-ext}
+use Rattle.bits.proofs.Below.{first-cong, first-has, first-none, first-unique, below-suc, by-cases, true-false}
+use Rattle.bits.proofs.Counting.{bool-ext, count-le}
 use Rattle.sheet.specs.Readable.{ReadableJob}
 use Rattle.sheet.specs.declared.Job as sheet
-use Rattle.workflow.specs.Problem.{Rule, Job, May, Plan, Valid, Met, Asks, RuleOk, distinct}
-use Rattle.workflow.specs.Independent.{Alike}
-use Rattle.workflow.specs.First.{Found, found, nothing, planOf, firstPlan, IsFirst, FirstValid}
-use Rattle.workflow.proofs.Counts.{distinct-alike}
-use Rattle.workflow.proofs.First.{firstPlan-is-first, firstPlan-unique}
+use Rattle.workflow.specs.Problem.{Kind, same, different, atMost, atLeast, Fits, Job, RuleOk, leastOf, mostOf}
+use Rattle.workflow.specs.Numbered.{kindIn}
+use Rattle.workflow.specs.Same.{Renamed}
+use Rattle.workflow.proofs.Same.{renamed-same, same-trans}
+use Rattle.pattern.specs.declared.Size.{Size}
+use Rattle.pattern.specs.Given.{Ruled, Given}
 use Rattle.pattern.specs.Pattern.{Refining}
 use Rattle.pattern.specs.Realize.{leader}
-use Rattle.pattern.specs.Search.{Searchable}
-use Rattle.pattern.specs.Tables.{classIn, mayIn, jobIn}
+use Rattle.pattern.specs.Rule.{levelIn, scopeIn}
+use Rattle.pattern.specs.Tables.{classIn, mayIn, ruleIn, jobIn}
+use Rattle.levels.specs.Trims.{Trims}
 use Rattle.instance.specs.Instance.{instanceOf, mayOf}
-use Rattle.instance.proofs.Laws.{instance-nested, instance-rules}
+use Rattle.instance.proofs.Laws.{instance-nested, instance-fits, instance-rules}
 use Rattle.tables.specs.Arrays.{MasksOf, ClassesOf, firstWith}
+use Rattle.tables.specs.Posing.{Packable, Packs, PackedRules, Poses}
 
 -- the first person with p's number is one of the people, and has it
 module _ (numbers : List ℕ) (people : ℕ) where
@@ -45,92 +50,190 @@ module _ (numbers : List ℕ) (people : ℕ) where
   named-tells : (p q : ℕ) → p < people → q < people → firstWith numbers people p ≡ firstWith numbers people q → getD numbers p 0 ≡ getD numbers q 0
   named-tells p q l m e = sym (named-number p l) ∙ ap (λ (x : ℕ). getD numbers x 0) e ∙ named-number q m
 
+-- a limit is at most the size of the scope
+limit-fits : (k : Kind) (limit size : ℕ) → Fits k limit size → limit ≤ size
+limit-fits same limit size f = omega arith
+limit-fits different limit size f = omega arith
+limit-fits atMost limit size f = f .2
+limit-fits atLeast limit size f = f .2
+
+pub packable : (people steps rules : ℕ) (j : sheet.Job) → ReadableJob people steps rules j → Packable steps rules j
+packable people steps rules j r =
+    record {
+      few-steps = r .steps-most;
+      few-rules = r .rules-most;
+      kinds = r .sized .kind;
+      levels = r .sized .level;
+      limits = r .sized .limit;
+      scopes = r .sized .scope;
+      level = λ i l. r .rule i l .level-to;
+      limit = λ i l.
+          let f = limit-fits (kindIn (getD (j .«rule_kind») i 0)) (getD (j .«rule_limit») i 0) _ (instance-fits people steps rules j r i l) in
+          omega (arith, count-le steps (hasBit (getD (j .«rule_scope») i 0)), r .steps-most);
+    }
+
 module _ (people steps rules : ℕ) (j : sheet.Job) (r : ReadableJob people steps rules j)
-    (class : List ℕ) (c : ClassesOf (j .shop) (j .bench) people people class) where
+    (class : List ℕ) (c : ClassesOf (j .shop) (j .bench) people people class) (rule : List ℕ) (w : PackedRules steps rules (j .«rule_kind») (j .«rule_level») (j .«rule_limit») (j .«rule_scope») rule) where
+  abbrev size : Size
+  size = record { steps = steps; people = people; levels = 3; rules = rules }
+
+  abbrev asked : Job
+  asked = instanceOf people steps rules j
+
   abbrev posed : Job
-  posed = jobIn steps people 3 class rules (j .«rule_kind») (j .«rule_level») (j .«rule_limit») (j .«rule_scope»)
+  posed = jobIn size class rule
 
   -- the table has two people in one class exactly where the sheet has
-  class-back : (q p p′ : ℕ) → 1 ≤ q → q ≤ 3 → p < people → p′ < people
-      → instanceOf people steps rules j .class q p ≡ instanceOf people steps rules j .class q p′ → classIn class q p ≡ classIn class q p′
+  class-back : (q p p′ : ℕ) → 1 ≤ q → q ≤ 3 → p < people → p′ < people → asked .class q p ≡ asked .class q p′ → classIn class q p ≡ classIn class q p′
   class-back zero p p′ a b l m e = absurd (omega arith)
   class-back (suc zero) p p′ a b l m e = c .shops p l ∙ named-same (j .shop) people p p′ e ∙ sym (c .shops p′ m)
   class-back (suc (suc zero)) p p′ a b l m e = c .benches p l ∙ named-same (j .bench) people p p′ e ∙ sym (c .benches p′ m)
   class-back (suc (suc (suc zero))) p p′ a b l m e = ap (classIn class 3) e
   class-back (suc (suc (suc (suc q)))) p p′ a b l m e = absurd (omega arith)
 
-  class-forth : (q p p′ : ℕ) → 1 ≤ q → q ≤ 3 → p < people → p′ < people
-      → classIn class q p ≡ classIn class q p′ → instanceOf people steps rules j .class q p ≡ instanceOf people steps rules j .class q p′
+  class-forth : (q p p′ : ℕ) → 1 ≤ q → q ≤ 3 → p < people → p′ < people → classIn class q p ≡ classIn class q p′ → asked .class q p ≡ asked .class q p′
   class-forth zero p p′ a b l m e = absurd (omega arith)
   class-forth (suc zero) p p′ a b l m e = named-tells (j .shop) people p p′ l m (sym (c .shops p l) ∙ e ∙ c .shops p′ m)
   class-forth (suc (suc zero)) p p′ a b l m e = named-tells (j .bench) people p p′ l m (sym (c .benches p l) ∙ e ∙ c .benches p′ m)
   class-forth (suc (suc (suc zero))) p p′ a b l m e = sym (c .persons p l) ∙ e ∙ c .persons p′ m
   class-forth (suc (suc (suc (suc q)))) p p′ a b l m e = absurd (omega arith)
 
-  pub posed-refining : Refining posed
-  posed-refining =
+  refining : Refining posed
+  refining =
       record {
         finer = λ q p p′ a b l m e.
             class-back q p p′ a (omega arith) l m
             (instance-nested people steps rules j r .finer q p p′ a b l m (class-forth (suc q) p p′ (omega arith) (omega arith) l m e));
       }
 
-  pub posed-searchable : Searchable posed
-  posed-searchable = record { refining = posed-refining; rule-ok = instance-rules people steps rules j r }
-
   -- the names of the classes are their first people
-  pub posed-leaders : (q p : ℕ) → 1 ≤ q → q ≤ 3 → p < people → classIn class q p ≡ leader posed q p
+  leaders : (q p : ℕ) → 1 ≤ q → q ≤ 3 → p < people → classIn class q p ≡ leader posed q p
   unfolding leader
-  posed-leaders q p a b l = name q p a b l ∙ sym (first-cong people _ _ (λ x m. bool-ext _ _ (λ t. eq-eqb _ _ (class-forth q x p a b m l (eqb-true _ _ t))) (λ t. eq-eqb _ _ (class-back q x p a b m l (eqb-true _ _ t)))))
+  leaders q p a b l =
+      name q p a b l
+      ∙ sym (first-cong people _ _
+      (λ x m. bool-ext _ _ (λ t. eq-eqb _ _ (class-forth q x p a b m l (eqb-true _ _ t))) (λ t. eq-eqb _ _ (class-back q x p a b m l (eqb-true _ _ t)))))
     where
       -- each class is named by the first person of the instance's class
-      name : (q p : ℕ) → 1 ≤ q → q ≤ 3 → p < people
-          → classIn class q p ≡ first people (λ x. eqb (instanceOf people steps rules j .class q x) (instanceOf people steps rules j .class q p))
+      name : (q p : ℕ) → 1 ≤ q → q ≤ 3 → p < people → classIn class q p ≡ first people (λ x. eqb (asked .class q x) (asked .class q p))
       name zero p a b l = absurd (omega arith)
       name (suc zero) p a b l = c .shops p l
       name (suc (suc zero)) p a b l = c .benches p l
       name (suc (suc (suc zero))) p a b l = c .persons p l ∙ sym (first-unique people (λ x. eqb x p) p (omega arith) (λ h. eq-eqb p p refl) (λ k h. ne-eqb k p (omega arith)))
       name (suc (suc (suc (suc q)))) p a b l = absurd (omega arith)
 
-  module _ (may : List ℕ) (m : MasksOf (j .permitted) people steps may) where
-    may-same : (s p : ℕ) → s < steps → p < people → mayIn may s p ≡ mayOf j s p
-    may-same s p l k = m .each s l .each p ∙ ap (λ (b : Bool). b && hasBit (getD (j .permitted) p 0) s) (lt-ltb p people k)
+  ok : (i : ℕ) → i < rules → RuleOk steps 3 (ruleIn rule i)
+  ok i l =
+      let k = instance-rules people steps rules j r i l in
+      let e = w .each i l in
+      let z : count steps (hasBit (scopeIn (getD rule i 0))) ≡ count steps (hasBit (getD (j .«rule_scope») i 0))
+      = ap (λ (m : ℕ). count steps (hasBit m)) (e .its-scope)
+      in
+      record {
+        from = omega (arith, e .its-level, k .from);
+        to = omega (arith, e .its-level, k .to);
+        reachable = omega (arith, e .its-least, k .reachable);
+        bounded = omega (arith, e .its-most, k .bounded);
+      }
 
-    -- the two problems count the same classes
-    alike : (i : ℕ) → i < rules → (π : Plan) → ((s : ℕ) → s < steps → π s < people)
-        → Alike steps (posed .rule i .scope) (λ s. classIn class (posed .rule i .level) (π s)) (λ s. instanceOf people steps rules j .class (posed .rule i .level) (π s))
-    alike i l π w =
-        let k = instance-rules people steps rules j r i l in
-        record {
-          forth = λ s t a b x y e. class-forth (posed .rule i .level) (π s) (π t) (k .from) (k .to) (w s a) (w t b) e;
-          back = λ s t a b x y e. class-back (posed .rule i .level) (π s) (π t) (k .from) (k .to) (w s a) (w t b) e;
-        }
+  pub whole-given : Given size class rule
+  whole-given =
+      record {
+        ruled = record {
+          few-steps = r .steps-most;
+          few-levels = omega arith;
+          few-rules = r .rules-most;
+          sized = w .sized;
+          scopes = λ i l. subst (λ (m : ℕ). m < 2 ^ steps) (sym (w .each i l .its-scope)) (r .rule i l .scope);
+          rule-ok = ok;
+        };
+        few-people = r .people-most;
+        classes = c .size;
+        refining = refining;
+        leaders = leaders;
+      }
 
-    pub posed-valid : (π : Plan) → Valid (instanceOf people steps rules j) (mayOf j) π → Valid posed (mayIn may) π
-    posed-valid π v =
-        record {
-          within = v .within;
-          authorised = λ s l. may-same s (π s) l (v .within s l) ∙ v .authorised s l;
-          eligible = λ i l.
-              subst (Asks (posed .rule i .kind) (posed .rule i .limit)) (sym (distinct-alike steps (posed .rule i .scope) _ _ (alike i l π (v .within)))) (v .eligible i l);
-        }
+  renamed : Renamed asked posed
+  renamed =
+      record {
+        steps = refl;
+        people = refl;
+        rules = refl;
+        least = λ i l. w .each i l .its-least;
+        most = λ i l. w .each i l .its-most;
+        scope = λ i s l. ap (λ (m : ℕ). hasBit m s) (w .each i l .its-scope);
+        classes = λ i p p′ l a b.
+            let k = ok i l in
+            let e = w .each i l .its-level in (
+              λ x. class-back (levelIn (getD rule i 0)) p p′ (k .from) (k .to) a b (subst (λ (q : ℕ). asked .class q p ≡ asked .class q p′) (sym e) x),
+              λ x. subst (λ (q : ℕ). asked .class q p ≡ asked .class q p′) e (class-forth (levelIn (getD rule i 0)) p p′ (k .from) (k .to) a b x),
+            );
+      }
 
-    pub valid-posed : (π : Plan) → Valid posed (mayIn may) π → Valid (instanceOf people steps rules j) (mayOf j) π
-    valid-posed π v =
-        record {
-          within = v .within;
-          authorised = λ s l. sym (may-same s (π s) l (v .within s l)) ∙ v .authorised s l;
-          eligible = λ i l.
-              subst (Asks (posed .rule i .kind) (posed .rule i .limit)) (distinct-alike steps (posed .rule i .scope) _ _ (alike i l π (v .within))) (v .eligible i l);
-        }
+  pub poses : {size′ : Size} {class′ crowd′ rule′ of′ may : List ℕ} → Trims size class rule size′ class′ crowd′ rule′ of′ → MasksOf (j .permitted) people steps may
+      → Poses people steps rules j size′ class′ crowd′ rule′ of′ may
+  poses t m =
+      record {
+        tabled = t .tabled;
+        masks = m .size;
+        same = same-trans (renamed-same asked posed renamed) (t .same);
+        permitted = λ s p l k. m .each s l .each p ∙ ap (λ (b : Bool). b && hasBit (getD (j .permitted) p 0) s) (lt-ltb p people k);
+      }
 
-    -- so the first plan is the same
-    pub posed-first : firstPlan posed (mayIn may) ≡ firstPlan (instanceOf people steps rules j) (mayOf j)
-    posed-first =
-        firstPlan-unique posed (mayIn may) (firstPlan (instanceOf people steps rules j) (mayOf j))
-        (go (firstPlan (instanceOf people steps rules j) (mayOf j)) (firstPlan-is-first (instanceOf people steps rules j) (mayOf j)))
-      where
-        go : (f : Found) → IsFirst (instanceOf people steps rules j) (mayOf j) f → IsFirst posed (mayIn may) f
-        go (found xs) h =
-            (h .0, record { valid = posed-valid (planOf xs) (h .1 .valid); first = λ σ v e. h .1 .first σ (valid-posed σ v) e })
-        go nothing h = λ π v. h π (valid-posed π v)
+-- kinds 0 and 1 are `same`, those from 4 on `at least`
+pub low-least : (kind limit : ℕ) → kind ≤ 1 → 1 ≡ leastOf (kindIn kind) limit
+low-least zero limit l = refl
+low-least (suc zero) limit l = refl
+low-least (suc (suc kind)) limit l = absurd (omega arith)
+
+pub low-most : (kind limit steps : ℕ) → kind ≤ 1 → 1 ≡ mostOf (kindIn kind) limit steps
+low-most zero limit steps l = refl
+low-most (suc zero) limit steps l = refl
+low-most (suc (suc kind)) limit steps l = absurd (omega arith)
+
+pub high-least : (kind limit : ℕ) → 4 ≤ kind → limit ≡ leastOf (kindIn kind) limit
+high-least zero limit l = absurd (omega arith)
+high-least (suc zero) limit l = absurd (omega arith)
+high-least (suc (suc zero)) limit l = absurd (omega arith)
+high-least (suc (suc (suc zero))) limit l = absurd (omega arith)
+high-least (suc (suc (suc (suc kind)))) limit l = refl
+
+pub high-most : (kind limit steps : ℕ) → 4 ≤ kind → steps ≡ mostOf (kindIn kind) limit steps
+high-most zero limit steps l = absurd (omega arith)
+high-most (suc zero) limit steps l = absurd (omega arith)
+high-most (suc (suc zero)) limit steps l = absurd (omega arith)
+high-most (suc (suc (suc zero))) limit steps l = absurd (omega arith)
+high-most (suc (suc (suc (suc kind)))) limit steps l = refl
+
+-- what is packed fits in its bits
+pub least-small : (kind : Kind) (limit : ℕ) → limit ≤ 12 → leastOf kind limit < 16
+least-small same limit l = omega arith
+least-small different limit l = omega arith
+least-small atMost limit l = omega arith
+least-small atLeast limit l = omega arith
+
+pub most-small : (kind : Kind) (limit steps : ℕ) → limit ≤ 12 → steps ≤ 12 → mostOf kind limit steps < 16
+most-small same limit steps l m = omega arith
+most-small different limit steps l m = omega arith
+most-small atMost limit steps l m = omega arith
+most-small atLeast limit steps l m = omega arith
+
+module _ (steps : ℕ) (kind level limit scope : List ℕ) where
+  pub packed-none : (rule : List ℕ) → length rule ≡ 64 → PackedRules steps 0 kind level limit scope rule
+  packed-none rule l = record { sized = l; each = λ i h. absurd (not-suc-le-zero h) }
+
+  pub packed-more : (n : ℕ) (rule : List ℕ) (x : ℕ) → n < 64 → PackedRules steps n kind level limit scope rule → Packs steps kind level limit scope n x
+      → PackedRules steps (n + 1) kind level limit scope (set rule n x)
+  packed-more n rule x l w p =
+      let z = w .sized in
+      record {
+        sized = length-set rule n x ∙ z;
+        each = λ i h.
+            below-suc n i (subst (λ (k : ℕ). i < k) (add-one n) h)
+            (λ q. subst (Packs steps kind level limit scope i) (sym (getD-set-other rule n i x 0 (omega arith))) (w .each i q))
+            (λ e. subst (λ (k : ℕ). Packs steps kind level limit scope k (getD (set rule n x) k 0)) (sym e)
+            (subst (Packs steps kind level limit scope n) (sym (getD-set-same rule n x 0 (omega arith))) p));
+      }
+
+  pub packed-all : (rules n : ℕ) (rule : List ℕ) → n ≤ rules → rules ≤ n → PackedRules steps n kind level limit scope rule → PackedRules steps rules kind level limit scope rule
+  packed-all rules n rule a b w = let e : n ≡ rules = omega arith in subst (λ (x : ℕ). PackedRules steps x kind level limit scope rule) e w

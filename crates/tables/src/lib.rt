@@ -1,10 +1,20 @@
-// The arrays that the search is given: masks of people for each step, and classes named by their first people.
+// A job as the search takes it: masks of people for each step, classes named by their first people, and
+// rules as numbers.
 ghost use mathlib.Core.Path.{_≡_};
 ghost use Prim.Native.Nat.{ℕ, _+_, _^_, _<_, _≤_};
 ghost use lib.ListN.{length, getD};
 ghost use Rattle.sheet.specs.Slots.{Firsts};
+ghost use Rattle.workflow.specs.Problem.{leastOf, mostOf};
+ghost use Rattle.workflow.specs.Numbered.{kindIn};
+ghost use Rattle.sheet.specs.Readable.{ReadableJob};
+ghost use Rattle.tables.specs.Posing.{Packable, PackedRules, Poses};
 ghost use Rattle.tables.specs.Arrays.{MasksOf, ClassesOf, firstWith};
 ghost use Rattle.tables.specs.Rows.{Pushed};
+use levels::Tables;
+use levels::keep;
+use pattern::Size;
+use pattern::rule;
+use sheet::Job;
 use sheet::slots::first_there;
 
 // Puts the bits of a person's word below those of the people after, one for each step.
@@ -18,7 +28,7 @@ fn push(word: u16, may: &mut [u64; 12])
 }
 
 // The people permitted, for each step.
-pub fn may_masks(permitted: &[u16; 64], people: usize, steps: usize) -> [u64; 12]
+fn may_masks(permitted: &[u16; 64], people: usize, steps: usize) -> [u64; 12]
     requires { ⌜ (length (now permitted) ≡ 64) × (people ≤ 64) × (steps ≤ 12) ⌝ }
     ensures { λ r. ⌜ MasksOf (now (permitted .entry)) people steps r ⌝ }
 {
@@ -58,7 +68,7 @@ fn leader(numbers: &[u16; 64], people: usize, p: usize, firsts: &mut [u8; 1024])
 }
 
 // The classes of each level: shops, benches, people.
-pub fn classes(shop: &[u16; 64], bench: &[u16; 64], people: usize) -> [u8; 192]
+fn classes(shop: &[u16; 64], bench: &[u16; 64], people: usize) -> [u8; 192]
     requires { ⌜ (length (now shop) ≡ 64) × (length (now bench) ≡ 64) × (people ≤ 64) ⌝ }
     ensures { λ r. ⌜ ClassesOf (now (shop .entry)) (now (bench .entry)) people people r ⌝ }
 {
@@ -71,4 +81,76 @@ pub fn classes(shop: &[u16; 64], bench: &[u16; 64], people: usize) -> [u8; 192]
         class[128 + p] = p as u8;
     }
     class
+}
+
+// A job as the search takes it, and who may do each step.
+pub struct Posed {
+    pub tables: Tables,
+    pub may: [u64; 12],
+}
+
+// The least count of a rule of a kind.
+fn least(kind: u8, limit: usize) -> usize
+    ensures { λ r. ⌜ r ≡ leastOf (kindIn kind) limit ⌝ }
+{
+    match kind {
+        0..=1 => 1,
+        2 => 2,
+        3 => 0,
+        _ => limit,
+    }
+}
+
+// The greatest count of a rule of a kind.
+fn most(kind: u8, limit: usize, steps: usize) -> usize
+    ensures { λ r. ⌜ r ≡ mostOf (kindIn kind) limit steps ⌝ }
+{
+    match kind {
+        0..=1 => 1,
+        2 => 2,
+        3 => limit,
+        _ => steps,
+    }
+}
+
+// The rules of a job as numbers.
+fn packed(job: Job, steps: usize, rules: usize) -> [u32; 64]
+    requires { ⌜ Packable steps rules job ⌝ }
+    ensures { λ r. ⌜ PackedRules steps rules (job .«rule_kind») (job .«rule_level») (job .«rule_limit») (job .«rule_scope») r ⌝ }
+{
+    let kind = job.rule_kind;
+    let level = job.rule_level;
+    let limit = job.rule_limit;
+    let scope = job.rule_scope;
+    let mut rule = [0u32; 64];
+    for i in 0..rules {
+        let low = least(kind[i], limit[i] as usize);
+        let high = most(kind[i], limit[i] as usize, steps);
+        rule[i] = rule::pack(level[i] as usize, low, high, scope[i]);
+    }
+    rule
+}
+
+// Poses a readable job to the search, without the levels that no rule names.
+pub fn pose(job: Job, people: usize, steps: usize, rules: usize) -> Posed
+    requires { ⌜ ReadableJob people steps rules job ⌝ }
+    ensures { λ r. ⌜ Poses people steps rules job (r .tables .size) (r .tables .class) (r .tables .crowd) (r .tables .rule) (r .tables .of) (r .may) ⌝ }
+{
+    let shop = job.shop;
+    let bench = job.bench;
+    let class = classes(&shop, &bench, people);
+    let permitted = job.permitted;
+    let may = may_masks(&permitted, people, steps);
+    let rule = packed(job, steps, rules);
+    let size = Size {
+        steps: steps,
+        people: people,
+        levels: 3,
+        rules: rules,
+    };
+    let tables = keep(size, &class, &rule);
+    Posed {
+        tables: tables,
+        may: may,
+    }
 }

@@ -7,12 +7,12 @@ use Prim.Native.Nat.{ℕ, zero, suc}
 use lib.ListN.{getD}
 use Rattle.bits.specs.Below.{all, any, count}
 use Rattle.bits.specs.Word.{hasBit}
-use Rattle.workflow.specs.Problem.{Kind, Rule, Job, May, same, different, atMost, atLeast, opens, distinct, authorisedTest, eligibleTest, valid}
+use Rattle.workflow.specs.Problem.{Kind, Rule, Job, May, ruleOf, same, different, atMost, atLeast, opens, distinct, authorisedTest, eligibleTest, valid}
 use Rattle.workflow.specs.First.{found, nothing, planOf, firstOf, tryAll, firstPlan}
 
--- the rule with the fields of its card, scope bit j for step j
+-- the rule with the fields of its card, scope bit j for step j, in a job of three steps; no rule of six steps here has a lower limit alone
 abbrev pub card : Kind → ℕ → ℕ → ℕ → Rule
-card kind level limit scope = record { kind = kind; level = level; limit = limit; scope = hasBit scope }
+card kind level limit scope = ruleOf 3 kind level limit (hasBit scope)
 
 -- shop, bench and person of 101, 102, 103, 104
 abbrev pub classW : ℕ → ℕ → ℕ

@@ -8,3 +8,4 @@ pub mod Order
 pub mod Lists
 pub mod First
 pub mod Examples
+pub mod Same

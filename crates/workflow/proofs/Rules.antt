@@ -8,10 +8,9 @@ use lib.Dec.{eqb, ltb}
 use borrow.Author.Tests.{eqb-true, eqb-false, eq-eqb, ne-eqb, ltb-true, ltb-false}
 use Rattle.bits.specs.Below.{count}
 use Rattle.bits.proofs.Below.{by-cases}
-use Rattle.bits.proofs.Counting.{Two, count-at, count-is-two}
-use Rattle.workflow.specs.Problem.{Kind, Rule, Job, Plan, same, different, atMost, atLeast, distinct, classCount, scopeSize, Asks, Met, RuleOk, Fits, Pair}
-use Rattle.workflow.specs.Interval.{lowest, highest, InInterval}
-use Rattle.workflow.proofs.Counts.{distinct-le, distinct-le-scope, distinct-some, distinct-pair}
+use Rattle.bits.proofs.Counting.{Two, count-le, count-is-two}
+use Rattle.workflow.specs.Problem.{Kind, Job, Plan, same, different, atMost, atLeast, leastOf, mostOf, ruleOf, distinct, classCount, Asks, Met, RuleOk, Fits, Pair}
+use Rattle.workflow.proofs.Counts.{distinct-le, distinct-pair}
 
 -- the count over a scope of two steps
 pub distinct-of-pair : (n : ℕ) (scope : ℕ → Bool) (c : ℕ → ℕ) (s t : ℕ) → Pair n scope s t
@@ -65,57 +64,44 @@ scope-pair n scope h =
       },
     )
 
-module _ (j : Job) (r : Rule) (π : Plan) (s t : ℕ) (scope : Pair (j .steps) (r .scope) s t) where
-  one-or-two : (j .class (r .level) (π s) ≡ j .class (r .level) (π t) → classCount j r π ≡ 1)
-      × ((j .class (r .level) (π s) ≡ j .class (r .level) (π t) → ⊥) → classCount j r π ≡ 2)
-  one-or-two = distinct-of-pair (j .steps) (r .scope) _ s t scope
+-- a rule of a kind is met exactly where its count is what the kind asks for
+module _ (j : Job) (level limit : ℕ) (scope : ℕ → Bool) (π : Plan) where
+  pub met-asks : (k : Kind) → Met j (ruleOf (j .steps) k level limit scope) π ↔ Asks k limit (classCount j (ruleOf (j .steps) k level limit scope) π)
+  met-asks same = (λ m. omega (arith, m .least, m .most), λ a. record { least = omega arith; most = omega arith })
+  met-asks different = (λ m. omega (arith, m .least, m .most), λ a. record { least = omega arith; most = omega arith })
+  met-asks atMost = (λ m. m .most, λ a. record { least = omega arith; most = a })
+  met-asks atLeast = (λ m. m .least, λ a. record { least = a; most = distinct-le (j .steps) scope (λ s. j .class level (π s)) })
+
+module _ (j : Job) (level : ℕ) (scope : ℕ → Bool) (π : Plan) (s t : ℕ) (pair : Pair (j .steps) scope s t) where
+  one-or-two : (j .class level (π s) ≡ j .class level (π t) → distinct (j .steps) scope (λ u. j .class level (π u)) ≡ 1)
+      × ((j .class level (π s) ≡ j .class level (π t) → ⊥) → distinct (j .steps) scope (λ u. j .class level (π u)) ≡ 2)
+  one-or-two = distinct-of-pair (j .steps) scope _ s t pair
 
   -- kind same is the document's (s, s′, ∼): "π(s) ∼ π(s′)"
-  pub same-iff : r .kind ≡ same → Met j r π ↔ (j .class (r .level) (π s) ≡ j .class (r .level) (π t))
-  same-iff k =
-      rw k
-      ((
-        λ m. by-cases (eqb (j .class (r .level) (π s)) (j .class (r .level) (π t)))
-            (λ e. eqb-true _ _ e) (λ e. absurd (omega (arith, one-or-two .1 (eqb-false _ _ e)))),
-        one-or-two .0,
-      ))
+  pub same-iff : Met j (ruleOf (j .steps) same level 0 scope) π ↔ (j .class level (π s) ≡ j .class level (π t))
+  same-iff = (
+    λ m. by-cases (eqb (j .class level (π s)) (j .class level (π t)))
+        (λ e. eqb-true _ _ e) (λ e. absurd (omega (arith, one-or-two .1 (eqb-false _ _ e), m .most))),
+    λ e. met-asks j level 0 scope π same .1 (one-or-two .0 e),
+  )
 
   -- kind different is the document's (s, s′, ≁)
-  pub different-iff : r .kind ≡ different → Met j r π ↔ (j .class (r .level) (π s) ≡ j .class (r .level) (π t) → ⊥)
-  different-iff k = rw k ((λ m e. omega (arith, one-or-two .0 e), one-or-two .1))
+  pub different-iff : Met j (ruleOf (j .steps) different level 0 scope) π ↔ (j .class level (π s) ≡ j .class level (π t) → ⊥)
+  different-iff = (λ m e. omega (arith, one-or-two .0 e, m .least), λ d. met-asks j level 0 scope π different .1 (one-or-two .1 d))
 
-module _ (j : Job) (r : Rule) (ok : RuleOk (j .steps) (j .levels) r) (π : Plan) where
-  -- the count has a step to count
-  pub count-some-class : 1 ≤ classCount j r π
-  count-some-class =
-      let w = count-at (j .steps) (r .scope) (size (r .kind) (ok .fits)) in
-      distinct-some (j .steps) (r .scope) _ (w .0) (w .1) (w .2)
-    where
-      size : (k : Kind) → Fits k (r .limit) (scopeSize (j .steps) r) → 1 ≤ scopeSize (j .steps) r
-      size same f = omega arith
-      size different f = omega arith
-      size atMost f = omega arith
-      size atLeast f = omega arith
+-- a rule of a readable sheet has bounds within reach
+pub ruleOf-ok : (steps levels : ℕ) (k : Kind) (level limit : ℕ) (scope : ℕ → Bool) → 1 ≤ level → level ≤ levels → Fits k limit (count steps scope)
+    → RuleOk steps levels (ruleOf steps k level limit scope)
+ruleOf-ok steps levels k level limit scope a b f = record { from = a; to = b; reachable = low k f; bounded = high k f }
+  where
+    low : (k : Kind) → Fits k limit (count steps scope) → leastOf k limit ≤ count steps scope
+    low same f = omega arith
+    low different f = omega arith
+    low atMost f = omega arith
+    low atLeast f = f .2
 
-  -- and at most those of the scope
-  pub count-le-scope : classCount j r π ≤ scopeSize (j .steps) r
-  count-le-scope = distinct-le-scope (j .steps) (r .scope) _
-
-  -- a rule is met exactly where its count lies in its interval
-  pub met-interval : Met j r π ↔ InInterval (j .steps) r (classCount j r π)
-  met-interval =
-      let w = interval (r .kind) (ok .fits) in
-      (λ m. record { least = w .0 m .0; most = w .0 m .1 }, λ i. w .1 (i .least) (i .most))
-    where
-      interval : (k : Kind) → Fits k (r .limit) (scopeSize (j .steps) r)
-          → (Asks k (r .limit) (classCount j r π)
-          → (lowest k (r .limit) ≤ classCount j r π) × (classCount j r π ≤ highest k (r .limit) (j .steps)))
-          × (lowest k (r .limit) ≤ classCount j r π → classCount j r π ≤ highest k (r .limit) (j .steps)
-          → Asks k (r .limit) (classCount j r π))
-      interval same f = (λ m. (omega arith, omega arith), λ a b. omega (arith, count-some-class))
-      interval different f = (
-        λ m. (omega arith, omega (arith, distinct-le (j .steps) (r .scope) (λ s. j .class (r .level) (π s)))),
-        λ a b. omega (arith, count-le-scope),
-      )
-      interval atMost f = (λ m. (omega arith, m), λ a b. b)
-      interval atLeast f = (λ m. (m, distinct-le (j .steps) (r .scope) (λ s. j .class (r .level) (π s))), λ a b. a)
+    high : (k : Kind) → Fits k limit (count steps scope) → mostOf k limit steps ≤ steps
+    high same f = omega (arith, count-le steps scope)
+    high different f = omega (arith, count-le steps scope)
+    high atMost f = omega (arith, count-le steps scope)
+    high atLeast f = omega arith

@@ -2,33 +2,25 @@
 use mathlib.Core.Bool.{true, false, _&&_}
 use mathlib.Core.Path.{_≡_, subst, ap}
 use Prim.Native.Nat.{ℕ, _<_}
-use lib.Dec.{ltb}
-use borrow.Author.Tests.{eqb-true, eq-eqb, leb-true, le-leb, ltb-true, lt-ltb}
+use lib.Dec.{leb, ltb}
+use borrow.Author.Tests.{leb-true, le-leb, ltb-true, lt-ltb}
 use Rattle.bits.specs.Below.{all}
 use Rattle.bits.proofs.Below.{true-false, all-at, all-of, and-left, and-right}
 use Rattle.bits.proofs.Counting.{and-of}
-use Rattle.workflow.specs.Problem.{Kind, Rule, Job, May, Plan, Agree, same, different, atMost, atLeast, classCount, Asks, asks, Met, met, Valid, authorisedTest, eligibleTest, valid, Satisfiable}
+use Rattle.workflow.specs.Problem.{Rule, Job, May, Plan, Agree, classCount, InBounds, Met, met, Valid, authorisedTest, eligibleTest, valid, Satisfiable}
 use Rattle.workflow.specs.Independent.{Alike, classesOf}
 use Rattle.workflow.proofs.Counts.{distinct-alike, distinct-cong}
 
-pub asks-sound : (k : Kind) (l n : ℕ) → asks k l n ≡ true → Asks k l n
-asks-sound same l n h = eqb-true n 1 h
-asks-sound different l n h = eqb-true n 2 h
-asks-sound atMost l n h = leb-true n l h
-asks-sound atLeast l n h = leb-true l n h
-
-pub asks-complete : (k : Kind) (l n : ℕ) → Asks k l n → asks k l n ≡ true
-asks-complete same l n h = eq-eqb n 1 h
-asks-complete different l n h = eq-eqb n 2 h
-asks-complete atMost l n h = le-leb n l h
-asks-complete atLeast l n h = le-leb l n h
-
 module _ (j : Job) (r : Rule) (π : Plan) where
   pub met-sound : met j r π ≡ true → Met j r π
-  met-sound h = asks-sound (r .kind) (r .limit) (classCount j r π) h
+  met-sound h =
+      record {
+        least = leb-true _ _ (and-left (leb (r .least) (classCount j r π)) _ h);
+        most = leb-true _ _ (and-right (leb (r .least) (classCount j r π)) _ h);
+      }
 
   pub met-complete : Met j r π → met j r π ≡ true
-  met-complete h = asks-complete (r .kind) (r .limit) (classCount j r π) h
+  met-complete h = and-of _ _ (le-leb _ _ (h .least)) (le-leb _ _ (h .most))
 
 module _ (j : Job) (may : May) (π : Plan) where
   pub valid-sound : valid j may π ≡ true → Valid j may π
@@ -59,11 +51,11 @@ module _ (j : Job) (r : Rule) (π σ : Plan) where
 
   -- so does whether the rule is met
   pub met-alike : Alike (j .steps) (r .scope) (classesOf j (r .level) π) (classesOf j (r .level) σ) → Met j r π → Met j r σ
-  met-alike a m = subst (λ (n : ℕ). Asks (r .kind) (r .limit) n) (count-alike a) m
+  met-alike a m = subst (InBounds r) (count-alike a) m
 
   -- and it depends on the classes of the scope's steps only
   pub met-cong : ((s : ℕ) → s < j .steps → r .scope s ≡ true → j .class (r .level) (π s) ≡ j .class (r .level) (σ s)) → Met j r π → Met j r σ
-  met-cong h m = subst (λ (n : ℕ). Asks (r .kind) (r .limit) n) (distinct-cong (j .steps) (r .scope) _ _ h) m
+  met-cong h m = subst (InBounds r) (distinct-cong (j .steps) (r .scope) _ _ h) m
 
 -- validity depends on the people of the job's steps only
 pub valid-agree : (j : Job) (may : May) (π σ : Plan) → Agree (j .steps) π σ → Valid j may π → Valid j may σ

@@ -1,5 +1,5 @@
 pub mod Problem
-pub mod Interval
 pub mod Independent
 pub mod First
 pub mod Numbered
+pub mod Same

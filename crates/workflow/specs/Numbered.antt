@@ -3,7 +3,7 @@ use mathlib.Core.List.{List}
 use Prim.Native.Nat.{ℕ, zero, suc}
 use lib.ListN.{getD}
 use Rattle.bits.specs.Word.{hasBit}
-use Rattle.workflow.specs.Problem.{Kind, Rule, same, different, atMost, atLeast}
+use Rattle.workflow.specs.Problem.{Kind, Rule, ruleOf, same, different, atMost, atLeast}
 
 -- "rule kind 1 to 4": the kind of a number
 abbrev pub kindIn : ℕ → Kind
@@ -13,7 +13,7 @@ kindIn (suc (suc zero)) = different
 kindIn (suc (suc (suc zero))) = atMost
 kindIn (suc (suc (suc (suc n)))) = atLeast
 
--- rule i, of arrays of kinds, levels, limits and scopes, a scope being a mask of steps
-abbrev pub ruleIn : List ℕ → List ℕ → List ℕ → List ℕ → ℕ → Rule
-ruleIn kind level limit scope i =
-    record { kind = kindIn (getD kind i 0); level = getD level i 0; limit = getD limit i 0; scope = hasBit (getD scope i 0) }
+-- rule i of a job of so many steps, of arrays of kinds, levels, limits and scopes, a scope being a mask of steps
+abbrev pub cardRule : ℕ → List ℕ → List ℕ → List ℕ → List ℕ → ℕ → Rule
+cardRule steps kind level limit scope i =
+    ruleOf steps (kindIn (getD kind i 0)) (getD level i 0) (getD limit i 0) (hasBit (getD scope i 0))

@@ -10,11 +10,11 @@ use Rattle.bits.specs.Below.{all, any, count}
 pub data Kind : Type 0 where
   same different atMost atLeast : Kind
 
--- a rule counts the classes of its level over the steps of its scope
+-- a rule bounds the number of different classes of its level over the steps of its scope
 pub record Rule : Type 0 where
-  pub kind : Kind
   pub level : ℕ
-  pub limit : ℕ
+  pub least : ℕ
+  pub most : ℕ
   pub scope : ℕ → Bool
 
 -- a job; two people are in one class of a level exactly when they have the same class number there
@@ -61,26 +61,44 @@ classCount j r π = distinct (j .steps) (r .scope) (λ s. j .class (r .level) (�
 abbrev pub scopeSize : ℕ → Rule → ℕ
 scopeSize steps r = count steps (r .scope)
 
--- what a rule of a kind asks of its count: of kind, limit and count
+-- "Kind 1, same: .. count 1"; "Kind 2, different: .. count 2"; "Kind 3, at most: .. count not above the limit"; "Kind 4, at least: .. count
+-- not below the limit": of kind, limit and count
 abbrev pub Asks : Kind → ℕ → ℕ → Type 0
 Asks same limit n = n ≡ 1
 Asks different limit n = n ≡ 2
 Asks atMost limit n = n ≤ limit
 Asks atLeast limit n = limit ≤ n
 
--- the same as a test
-abbrev pub asks : Kind → ℕ → ℕ → Bool
-asks same limit n = eqb n 1
-asks different limit n = eqb n 2
-asks atMost limit n = leb n limit
-asks atLeast limit n = leb limit n
+-- the same as bounds: the least count, of kind and limit
+abbrev pub leastOf : Kind → ℕ → ℕ
+leastOf same limit = 1
+leastOf different limit = 2
+leastOf atMost limit = 0
+leastOf atLeast limit = limit
+
+-- the greatest count, of kind, limit and number of steps, above which no count is
+abbrev pub mostOf : Kind → ℕ → ℕ → ℕ
+mostOf same limit steps = 1
+mostOf different limit steps = 2
+mostOf atMost limit steps = limit
+mostOf atLeast limit steps = steps
+
+-- the rule of a card, in a job of so many steps
+abbrev pub ruleOf : ℕ → Kind → ℕ → ℕ → (ℕ → Bool) → Rule
+ruleOf steps kind level limit scope = record { level = level; least = leastOf kind limit; most = mostOf kind limit steps; scope = scope }
+
+-- the count lies within the rule's bounds
+pub record InBounds (r : Rule) (n : ℕ) : Type 0 where
+  pub least : r .least ≤ n
+  pub most : n ≤ r .most
 
 -- the plan meets the rule
 abbrev pub Met : Job → Rule → Plan → Type 0
-Met j r π = Asks (r .kind) (r .limit) (classCount j r π)
+Met j r π = InBounds r (classCount j r π)
 
+-- the same as a test
 abbrev pub met : Job → Rule → Plan → Bool
-met j r π = asks (r .kind) (r .limit) (classCount j r π)
+met j r π = leb (r .least) (classCount j r π) && leb (classCount j r π) (r .most)
 
 -- "It is valid when each person is permitted the step and all rules are met"; document 004: authorized and eligible
 pub record Valid (j : Job) (may : May) (π : Plan) : Type 0 where
@@ -109,11 +127,12 @@ Fits different limit size = (size ≡ 2) × (limit ≡ 0)
 Fits atMost limit size = (2 ≤ size) × (1 ≤ limit) × (limit ≤ size)
 Fits atLeast limit size = (2 ≤ size) × (1 ≤ limit) × (limit ≤ size)
 
--- a rule as a readable sheet has it
+-- a rule of one of the levels whose bounds the steps of its scope, and all steps, can reach: what a readable sheet's rule is known by
 pub record RuleOk (steps levels : ℕ) (r : Rule) : Type 0 where
   pub from : 1 ≤ r .level
   pub to : r .level ≤ levels
-  pub fits : Fits (r .kind) (r .limit) (scopeSize steps r)
+  pub reachable : r .least ≤ scopeSize steps r
+  pub bounded : r .most ≤ steps
 
 -- the scope is {s, t}, as in the document's (s, s′, ∼)
 pub record Pair (steps : ℕ) (scope : ℕ → Bool) (s t : ℕ) : Type 0 where

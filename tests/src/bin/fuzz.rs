@@ -1,22 +1,19 @@
 //! Compares the program `trials` with the model on random sheets.
 
-use sheet_tests::garble::{sample, Sample};
-use sheet_tests::model::{read, text, CARD};
-use sheet_tests::random::Random;
+use model::card::CARD;
+use model::garble::{sample, Sample};
+use model::random::Random;
+use model::reader::{read, text};
 use sheet_tests::records;
-use std::collections::BTreeMap;
+use sheet_tests::tally::Tally;
 use std::io::{BufRead, BufReader, Write};
-use std::path::PathBuf;
 use std::process::{Command, ExitCode, Stdio};
-use std::{env, fs, thread};
+use std::{env, thread};
 
 const USAGE: &str = "usage: fuzz COUNT SEED PROGRAM";
 
 /// How many sheets one run of the program is given.
 const BATCH: usize = 1_000;
-
-/// How many failing sheets are named and saved.
-const MOST_SAVED: usize = 10;
 
 /// The program's lines for these samples, named by numbers from `start`. A last record has only `cut` bytes, and gets
 /// no line.
@@ -53,48 +50,25 @@ fn fault(name: usize, sample: &Sample, line: Option<&String>) -> Option<String> 
     }
 }
 
-struct Tally {
-    met: BTreeMap<String, usize>,
-    passed: usize,
-    failed: usize,
-}
-
-impl Tally {
-    fn count(&mut self, sample: &Sample) {
-        let key = match read(&sample.sheet) {
-            Ok(_) => "readable".to_string(),
-            Err(refusal) => format!("refusal {:2}", refusal.number),
-        };
-        *self.met.entry(key).or_default() += 1;
-    }
-
-    fn fail(&mut self, name: &str, sample: &Sample, fault: &str) {
-        self.failed += 1;
-        if self.failed > MOST_SAVED {
-            return;
-        }
-        let path = PathBuf::from(env!("CARGO_MANIFEST_DIR")).join("target").join(name);
-        match fs::write(path, &sample.sheet) {
-            Ok(()) => println!("FAILED {fault}; saved as tests/target/{name}"),
-            Err(error) => println!("FAILED {fault}; not saved: {error}"),
-        }
+fn outcome(sample: &Sample) -> String {
+    match read(&sample.sheet) {
+        Ok(_) => "readable".to_string(),
+        Err(refusal) => format!("refusal {:2}", refusal.number),
     }
 }
 
 fn run(count: usize, seed: u64, program: &str) -> std::io::Result<Tally> {
     let mut random = Random::new(seed);
-    let mut tally = Tally { met: BTreeMap::new(), passed: 0, failed: 0 };
+    let mut tally = Tally::new("fuzz", seed);
     let mut done = 0;
     while done < count {
         let size = BATCH.min(count - done);
         let samples: Vec<Sample> = (0..size).map(|_| sample(&mut random)).collect();
         let lines = answers(program, done, &samples, random.below(3 + 9 + CARD))?;
         for (k, sample) in samples.iter().enumerate() {
-            tally.count(sample);
-            match fault(done + k, sample, lines.get(k)) {
-                None => tally.passed += 1,
-                Some(fault) => tally.fail(&format!("failed-{seed}-{}.sheet", done + k), sample, &fault),
-            }
+            tally.count(outcome(sample));
+            let faults: Vec<String> = fault(done + k, sample, lines.get(k)).into_iter().collect();
+            tally.enter((done + k) as u64, &sample.sheet, &faults);
         }
         if lines.len() > size {
             return Err(std::io::Error::other("the program wrote too many lines"));
@@ -113,19 +87,11 @@ fn main() -> ExitCode {
         return ExitCode::from(2);
     };
     println!("seed {seed}");
-    let tally = match run(count, seed, program) {
-        Ok(tally) => tally,
+    match run(count, seed, program) {
+        Ok(tally) => tally.end(),
         Err(error) => {
             eprintln!("{program}: {error}");
-            return ExitCode::from(2);
+            ExitCode::from(2)
         }
-    };
-    for (key, times) in &tally.met {
-        println!("{key}: {times}");
     }
-    println!("{} passed, {} failed", tally.passed, tally.failed);
-    if tally.failed > 0 {
-        return ExitCode::FAILURE;
-    }
-    ExitCode::SUCCESS
 }

@@ -1,6 +1,6 @@
 //! Writes the input and the expected output of the crate `trials`, or checks that they are up to date.
 
-use sheet_tests::model::{read, text};
+use model::reader::{read, text};
 use sheet_tests::trials;
 use std::path::PathBuf;
 use std::process::ExitCode;

@@ -1,8 +1,8 @@
 //! Refusals 5, 6, 7, 9 and 12: where the chains lead.
 
 use super::{reads, refused, trial, Trial};
-use crate::builder::{job_w, lay, lay_at, plain, plain_job, sheet_w, spread_w, Draft};
-use crate::model::Job;
+use model::builder::{job_w, lay, lay_at, plain, plain_job, sheet_w, spread_w, Draft};
+use model::job::Job;
 
 pub fn trials() -> Vec<Trial> {
     let mut trials = index();

@@ -1,7 +1,7 @@
 //! Refusals 8, 10 and 11: what stands on the cards.
 
 use super::{reads, refused, trial, Trial};
-use crate::builder::{job_w, lay, plain, rule, sheet_w, spread_w, Draft};
+use model::builder::{job_w, lay, plain, rule, sheet_w, spread_w, Draft};
 
 pub fn trials() -> Vec<Trial> {
     let mut trials = field();

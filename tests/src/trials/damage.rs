@@ -1,7 +1,7 @@
 //! Every byte of each kind of card damaged, in W.
 
 use super::{reads, refused, trial, Trial};
-use crate::builder::sheet_w;
+use model::builder::sheet_w;
 
 pub fn trials() -> Vec<Trial> {
     let mut trials = each_byte();

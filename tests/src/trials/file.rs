@@ -1,8 +1,8 @@
 //! Refusals 3 and 4: the length and the header. Both always give card 0.
 
 use super::{refused, trial, Trial};
-use crate::builder::{plain, sheet_w, Draft};
-use crate::model::MOST_BYTES;
+use model::builder::{plain, sheet_w, Draft};
+use model::card::MOST_BYTES;
 
 pub fn trials() -> Vec<Trial> {
     let mut trials = length();

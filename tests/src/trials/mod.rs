@@ -8,9 +8,9 @@ mod papers;
 mod points;
 mod together;
 
-use crate::builder::Draft;
-use crate::model;
 use crate::records;
+use model::builder::Draft;
+use model::reader::{read, text};
 
 pub struct Trial {
     pub name: String,
@@ -48,7 +48,7 @@ pub fn files() -> (Vec<u8>, String) {
     let mut output = String::new();
     for trial in all() {
         records::add(&mut input, &trial.name, &trial.sheet);
-        let answer = model::text(&model::read(&trial.sheet));
+        let answer = text(&read(&trial.sheet));
         output += &format!("{}: {}\n", trial.name, answer);
     }
     (input, output)
@@ -62,7 +62,7 @@ mod tests {
     #[test]
     fn the_model_gives_each_answer() {
         for trial in all() {
-            let answer = model::text(&model::read(&trial.sheet));
+            let answer = text(&read(&trial.sheet));
             assert_eq!(answer, trial.answer, "{}", trial.name);
         }
     }

@@ -1,8 +1,8 @@
 //! Sheet W, and those of the paper's sheets to try that concern the reader.
 
 use super::{reads, refused, trial, Trial};
-use crate::builder::{job_w, lay, lay_at, one_by_one, plain, sheet_w, shorter_w, w_and, Draft};
-use crate::model::Job;
+use model::builder::{job_w, lay, lay_at, one_by_one, plain, sheet_w, shorter_w, w_and, Draft};
+use model::job::Job;
 
 pub fn trials() -> Vec<Trial> {
     let mut trials = starred();

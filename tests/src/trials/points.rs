@@ -1,7 +1,7 @@
 //! Where the paper leaves room, the reading taken: a trial for each point, numbered as the readings are.
 
 use super::{reads, refused, trial, Trial};
-use crate::builder::{plain, sheet_w, Draft};
+use model::builder::{plain, sheet_w, Draft};
 
 pub fn trials() -> Vec<Trial> {
     let mut trials = indices();

@@ -1,7 +1,7 @@
 //! Several faults in one sheet: the first in the paper's order is given.
 
 use super::{refused, trial, Trial};
-use crate::builder::{plain, sheet_w, Draft};
+use model::builder::{plain, sheet_w, Draft};
 
 pub fn trials() -> Vec<Trial> {
     let mut trials = before_the_chains();

@@ -29,343 +29,131 @@ use Rattle.narrow.proofs.propagate.propagate.Reads as propagate-reads
 use Rattle.backtrack.proofs.+branch+extend.{statement}
 use Rattle.backtrack.proofs.+branch+extend.Tie.{close}
 
-abbrev μ-branch : Measures 9 branch-kinds.ps ℕ
-μ-branch κs a = 2 * a .1 .1 .1 .1 .1 .1 .1 .1 .0 + 2
+abbrev μ-branch : Measures 7 branch-kinds.ps ℕ
+μ-branch κs a = 2 * a .1 .1 .1 .1 .1 .1 .0 .rest + 2
 
-abbrev μ-extend : Measures 9 extend-kinds.ps ℕ
-μ-extend κs a = 2 * a .1 .1 .1 .1 .1 .1 .1 .1 .0 + 1
+abbrev μ-extend : Measures 7 extend-kinds.ps ℕ
+μ-extend κs a = 2 * a .1 .1 .1 .1 .1 .1 .0 + 1
 
-abbrev branch-at : ℕ → In 9 branch-kinds.ps
-branch-at t = and 9 branch-kinds.ps (is 9 branch-kinds.ps μ-branch t) branch.Pre
+abbrev branch-at : ℕ → In 7 branch-kinds.ps
+branch-at t = and 7 branch-kinds.ps (is 7 branch-kinds.ps μ-branch t) branch.Pre
 
-abbrev branch-below : ℕ → In 9 branch-kinds.ps
-branch-below t = and 9 branch-kinds.ps (falls 9 branch-kinds.ps _<_ μ-branch t) branch.Pre
+abbrev branch-below : ℕ → In 7 branch-kinds.ps
+branch-below t = and 7 branch-kinds.ps (falls 7 branch-kinds.ps _<_ μ-branch t) branch.Pre
 
-abbrev extend-at : ℕ → In 9 extend-kinds.ps
-extend-at t = and 9 extend-kinds.ps (is 9 extend-kinds.ps μ-extend t) extend.Pre
+abbrev extend-at : ℕ → In 7 extend-kinds.ps
+extend-at t = and 7 extend-kinds.ps (is 7 extend-kinds.ps μ-extend t) extend.Pre
 
-abbrev extend-below : ℕ → In 9 extend-kinds.ps
-extend-below t = and 9 extend-kinds.ps (falls 9 extend-kinds.ps _<_ μ-extend t) extend.Pre
+abbrev extend-below : ℕ → In 7 extend-kinds.ps
+extend-below t = and 7 extend-kinds.ps (falls 7 extend-kinds.ps _<_ μ-extend t) extend.Pre
 
-branch-shl-next : (t : ℕ) → branch-lts.Need-shl-next (
+abbrev branch-claims : ℕ → branch-lts.Claims
+branch-claims t = (
   propagate-reads.Asked,
   propagate-reads.Learnt,
   extend-below t,
   extend.Post,
-) (branch-at t) branch.Post
+)
+
+abbrev extend-claims : ℕ → extend-lts.Claims
+extend-claims t = (
+  several-reads.Asked,
+  several-reads.Learnt,
+  finish-reads.Asked,
+  finish-reads.Learnt,
+  next-step-reads.Asked,
+  next-step-reads.Learnt,
+  small-without-reads.Asked,
+  small-without-reads.Learnt,
+  lowest-reads.Asked,
+  lowest-reads.Learnt,
+  set-without-reads.Asked,
+  set-without-reads.Learnt,
+  branch-below t,
+  branch.Post,
+)
+
+branch-shl-next : (t : ℕ) → branch-lts.Need-shl-next (branch-claims t) (branch-at t) branch.Post
 branch-shl-next t c = omega arith
 
-branch-mul-next : (t : ℕ) → branch-lts.Need-mul-next (
-  propagate-reads.Asked,
-  propagate-reads.Learnt,
-  extend-below t,
-  extend.Post,
-) (branch-at t) branch.Post
-branch-mul-next t c = omega (arith, c .before .pre .1 .0 .few-steps)
+branch-mul-next : (t : ℕ) → branch-lts.Need-mul-next (branch-claims t) (branch-at t) branch.Post
+branch-mul-next t c = omega (arith, c .before .pre .1 .0 .given .ruled .few-steps)
 
-branch-array-write-next : (t : ℕ) → branch-lts.Need-array-write-next (
-  propagate-reads.Asked,
-  propagate-reads.Learnt,
-  extend-below t,
-  extend.Post,
-) (branch-at t) branch.Post
-branch-array-write-next t c = omega (arith, c .before .pre .1 .0 .few-steps)
+branch-array-write-next : (t : ℕ) → branch-lts.Need-array-write-next (branch-claims t) (branch-at t) branch.Post
+branch-array-write-next t c = omega (arith, c .before .pre .1 .0 .given .ruled .few-steps)
 
-branch-mul-propagate : (t : ℕ) → branch-lts.Need-mul-propagate (
-  propagate-reads.Asked,
-  propagate-reads.Learnt,
-  extend-below t,
-  extend.Post,
-) (branch-at t) branch.Post
-branch-mul-propagate t c = omega (arith, c .before .pre .1 .0 .few-steps)
+branch-mul-propagate : (t : ℕ) → branch-lts.Need-mul-propagate (branch-claims t) (branch-at t) branch.Post
+branch-mul-propagate t c = omega (arith, c .before .pre .1 .0 .given .ruled .few-steps)
 
-branch-element-copy-out-propagate : (t : ℕ) → branch-lts.Need-element-copy-out-propagate (
-  propagate-reads.Asked,
-  propagate-reads.Learnt,
-  extend-below t,
-  extend.Post,
-) (branch-at t) branch.Post
-branch-element-copy-out-propagate t c = omega (arith, c .before .pre .1 .0 .few-steps)
+branch-element-copy-out-propagate : (t : ℕ) → branch-lts.Need-element-copy-out-propagate (branch-claims t) (branch-at t) branch.Post
+branch-element-copy-out-propagate t c = omega (arith, c .before .pre .1 .0 .given .ruled .few-steps)
 
-branch-propagate-requires : (t : ℕ) → branch-lts.Need-propagate-requires (
-  propagate-reads.Asked,
-  propagate-reads.Learnt,
-  extend-below t,
-  extend.Post,
-) (branch-at t) branch.Post
-branch-propagate-requires t c κs = (c .before .before .before .before .pre .1 .0, c .before .before .before .before .pre .1 .1, pinned-sized (c .before .before .before .before .args .dom .now) (c .before .before .before .before .args .s) (c .before .before .before .before .args .p) (c .before .before .before .before .pre .1 .2))
+branch-propagate-requires : (t : ℕ) → branch-lts.Need-propagate-requires (branch-claims t) (branch-at t) branch.Post
+branch-propagate-requires t c κs =
+    let s = c .before .before .before .before in
+    (s .pre .1 .0, pinned-sized (s .args .dom .now) (s .args .choice .step) (s .args .choice .person) (s .pre .1 .1))
 
-branch-returns : (t : ℕ) → branch-lts.Need-returns (
-  propagate-reads.Asked,
-  propagate-reads.Learnt,
-  extend-below t,
-  extend.Post,
-) (branch-at t) branch.Post
-branch-returns t c = (narrowed-lost _ _ _ _ _ _ (c .before .propagate .ensures) (not-true _ (c .if1 .taken)), c .before .before .before .before .before .before .pre .1 .3)
+branch-returns : (t : ℕ) → branch-lts.Need-returns (branch-claims t) (branch-at t) branch.Post
+branch-returns t c = (narrowed-lost _ _ _ _ _ _ (c .before .propagate .ensures) (not-true _ (c .if1 .taken)), c .before .before .before .before .before .before .pre .1 .2)
 
-branch-extend-requires : (t : ℕ) → branch-lts.Need-extend-requires (
-  propagate-reads.Asked,
-  propagate-reads.Learnt,
-  extend-below t,
-  extend.Post,
-) (branch-at t) branch.Post
+branch-extend-requires : (t : ℕ) → branch-lts.Need-extend-requires (branch-claims t) (branch-at t) branch.Post
 branch-extend-requires t c κs =
     let q = c .before .before .before .before .before .before .before .before .before .pre .1 in
     let n = c .before .before .before .before .propagate .ensures .fewer in
-    (omega arith, (q .0, q .1, n .sized, q .3, pinned-alone _ (q .2) _ _ (omega (arith, q .0 .few-steps)) (q .6) _ _ (q .4) _ n))
+    (omega arith, (q .0, n .sized, q .2, pinned-alone _ (q .1) _ _ (omega (arith, q .0 .given .ruled .few-steps)) (q .5) _ _ (q .3) _ n))
 
-branch-returns-2 : (t : ℕ) → branch-lts.Need-returns-2 (
-  propagate-reads.Asked,
-  propagate-reads.Learnt,
-  extend-below t,
-  extend.Post,
-) (branch-at t) branch.Post
+branch-returns-2 : (t : ℕ) → branch-lts.Need-returns-2 (branch-claims t) (branch-at t) branch.Post
 branch-returns-2 t c = (narrowed-trial _ _ _ _ _ _ (c .before .before .before .before .before .propagate .ensures) (not-false _ (c .before .before .before .before .if1 .left)) _ (c .extend .ensures .0), c .extend .ensures .1)
 
 abbrev extend-Inv-loop : extend-lts.InvT-loop
-extend-Inv-loop size mates kind level limit scope of ordered rest dom effort₀ plan₀ wide s others left₀ effort plan left = Untried (jobIn (size .steps) (size .people) (size .levels) mates (size .rules) kind level limit scope) s dom plan left
+extend-Inv-loop size class crowd rule of ordered rest dom effort₀ plan₀ wide s others left₀ effort plan left = Untried (jobIn size class rule) s dom plan left
 
 abbrev extend-μ-loop : extend-lts.MeasureT-loop
-extend-μ-loop size mates kind level limit scope of ordered rest dom effort₀ plan₀ wide s others left₀ effort plan left = left
+extend-μ-loop size class crowd rule of ordered rest dom effort₀ plan₀ wide s others left₀ effort plan left = left
 
-extend-several-requires : (t : ℕ) → extend-lts.Need-several-requires (
-  several-reads.Asked,
-  several-reads.Learnt,
-  finish-reads.Asked,
-  finish-reads.Learnt,
-  next-step-reads.Asked,
-  next-step-reads.Learnt,
-  small-without-reads.Asked,
-  small-without-reads.Learnt,
-  lowest-reads.Asked,
-  lowest-reads.Learnt,
-  set-without-reads.Asked,
-  set-without-reads.Learnt,
-  branch-below t,
-  branch.Post,
-) (extend-at t) extend.Post extend-Inv-loop extend-μ-loop
-extend-several-requires t c κs = (alone-small _ _ _ (c .pre .1 .0 .few-steps) (c .pre .1 .4), c .pre .1 .2)
+extend-several-requires : (t : ℕ) → extend-lts.Need-several-requires (extend-claims t) (extend-at t) extend.Post extend-Inv-loop extend-μ-loop
+extend-several-requires t c κs = (alone-small _ _ _ (c .pre .1 .0 .given .ruled .few-steps) (c .pre .1 .3), c .pre .1 .1)
 
-extend-finish-requires : (t : ℕ) → extend-lts.Need-finish-requires (
-  several-reads.Asked,
-  several-reads.Learnt,
-  finish-reads.Asked,
-  finish-reads.Learnt,
-  next-step-reads.Asked,
-  next-step-reads.Learnt,
-  small-without-reads.Asked,
-  small-without-reads.Learnt,
-  lowest-reads.Asked,
-  lowest-reads.Learnt,
-  set-without-reads.Asked,
-  set-without-reads.Learnt,
-  branch-below t,
-  branch.Post,
-) (extend-at t) extend.Post extend-Inv-loop extend-μ-loop
+extend-finish-requires : (t : ℕ) → extend-lts.Need-finish-requires (extend-claims t) (extend-at t) extend.Post extend-Inv-loop extend-μ-loop
 extend-finish-requires t c κs =
     let q = c .before .before .before .pre .1 in
-    (q .0, q .2, q .3, several-none _ _ _ _ (q .4) (c .before .before .several .ensures) (omega arith))
+    (q .0 .given, q .0 .crowds, q .1, q .2, several-none _ _ _ _ (q .3) (c .before .before .several .ensures) (omega arith))
 
-extend-returns : (t : ℕ) → extend-lts.Need-returns (
-  several-reads.Asked,
-  several-reads.Learnt,
-  finish-reads.Asked,
-  finish-reads.Learnt,
-  next-step-reads.Asked,
-  next-step-reads.Learnt,
-  small-without-reads.Asked,
-  small-without-reads.Learnt,
-  lowest-reads.Asked,
-  lowest-reads.Learnt,
-  set-without-reads.Asked,
-  set-without-reads.Learnt,
-  branch-below t,
-  branch.Post,
-) (extend-at t) extend.Post extend-Inv-loop extend-μ-loop
+extend-returns : (t : ℕ) → extend-lts.Need-returns (extend-claims t) (extend-at t) extend.Post extend-Inv-loop extend-μ-loop
 extend-returns t c = (trial-any _ _ _ _ _ (c .finish .ensures .0), c .finish .ensures .1)
 
-extend-next-step-requires : (t : ℕ) → extend-lts.Need-next-step-requires (
-  several-reads.Asked,
-  several-reads.Learnt,
-  finish-reads.Asked,
-  finish-reads.Learnt,
-  next-step-reads.Asked,
-  next-step-reads.Learnt,
-  small-without-reads.Asked,
-  small-without-reads.Learnt,
-  lowest-reads.Asked,
-  lowest-reads.Learnt,
-  set-without-reads.Asked,
-  set-without-reads.Learnt,
-  branch-below t,
-  branch.Post,
-) (extend-at t) extend.Post extend-Inv-loop extend-μ-loop
+extend-next-step-requires : (t : ℕ) → extend-lts.Need-next-step-requires (extend-claims t) (extend-at t) extend.Post extend-Inv-loop extend-μ-loop
 extend-next-step-requires t c κs =
     let q = c .before .before .pre .1 in
-    (alone-small _ _ _ (q .0 .few-steps) (several-alone _ _ _ _ (q .4) (c .before .several .ensures)), omega arith, q .1, q .2)
+    (alone-small _ _ _ (q .0 .given .ruled .few-steps) (several-alone _ _ _ _ (q .3) (c .before .several .ensures)), omega arith, q .0 .naming .sized, q .1)
 
-extend-without-requires : (t : ℕ) → extend-lts.Need-without-requires (
-  several-reads.Asked,
-  several-reads.Learnt,
-  finish-reads.Asked,
-  finish-reads.Learnt,
-  next-step-reads.Asked,
-  next-step-reads.Learnt,
-  small-without-reads.Asked,
-  small-without-reads.Learnt,
-  lowest-reads.Asked,
-  lowest-reads.Learnt,
-  set-without-reads.Asked,
-  set-without-reads.Learnt,
-  branch-below t,
-  branch.Post,
-) (extend-at t) extend.Post extend-Inv-loop extend-μ-loop
+extend-without-requires : (t : ℕ) → extend-lts.Need-without-requires (extend-claims t) (extend-at t) extend.Post extend-Inv-loop extend-μ-loop
 extend-without-requires t c κs = omega (arith, c .next-step .ensures .0)
 
-extend-mul-left : (t : ℕ) → extend-lts.Need-mul-left (
-  several-reads.Asked,
-  several-reads.Learnt,
-  finish-reads.Asked,
-  finish-reads.Learnt,
-  next-step-reads.Asked,
-  next-step-reads.Learnt,
-  small-without-reads.Asked,
-  small-without-reads.Learnt,
-  lowest-reads.Asked,
-  lowest-reads.Learnt,
-  set-without-reads.Asked,
-  set-without-reads.Learnt,
-  branch-below t,
-  branch.Post,
-) (extend-at t) extend.Post extend-Inv-loop extend-μ-loop
+extend-mul-left : (t : ℕ) → extend-lts.Need-mul-left (extend-claims t) (extend-at t) extend.Post extend-Inv-loop extend-μ-loop
 extend-mul-left t c = omega (arith, c .before .next-step .ensures .0)
 
-extend-element-copy-out-left : (t : ℕ) → extend-lts.Need-element-copy-out-left (
-  several-reads.Asked,
-  several-reads.Learnt,
-  finish-reads.Asked,
-  finish-reads.Learnt,
-  next-step-reads.Asked,
-  next-step-reads.Learnt,
-  small-without-reads.Asked,
-  small-without-reads.Learnt,
-  lowest-reads.Asked,
-  lowest-reads.Learnt,
-  set-without-reads.Asked,
-  set-without-reads.Learnt,
-  branch-below t,
-  branch.Post,
-) (extend-at t) extend.Post extend-Inv-loop extend-μ-loop
+extend-element-copy-out-left : (t : ℕ) → extend-lts.Need-element-copy-out-left (extend-claims t) (extend-at t) extend.Post extend-Inv-loop extend-μ-loop
 extend-element-copy-out-left t c = omega (arith, c .before .next-step .ensures .0)
 
-extend-loop-holds : (t : ℕ) → extend-lts.Need-loop-holds (
-  several-reads.Asked,
-  several-reads.Learnt,
-  finish-reads.Asked,
-  finish-reads.Learnt,
-  next-step-reads.Asked,
-  next-step-reads.Learnt,
-  small-without-reads.Asked,
-  small-without-reads.Learnt,
-  lowest-reads.Asked,
-  lowest-reads.Learnt,
-  set-without-reads.Asked,
-  set-without-reads.Learnt,
-  branch-below t,
-  branch.Post,
-) (extend-at t) extend.Post extend-Inv-loop extend-μ-loop
+extend-loop-holds : (t : ℕ) → extend-lts.Need-loop-holds (extend-claims t) (extend-at t) extend.Post extend-Inv-loop extend-μ-loop
 extend-loop-holds t c =
     let q = c .before .before .before .before .before .pre .1 in
-    untried-start _ _ _ _ (q .4 .below _ (c .before .before .before .before .several .ensures .part _ (c .before .before .next-step .ensures .1))) (q .3)
+    untried-start _ _ _ _ (q .3 .below _ (c .before .before .before .before .several .ensures .part _ (c .before .before .next-step .ensures .1))) (q .2)
 
-extend-returns-2 : (t : ℕ) → extend-lts.Need-returns-2 (
-  several-reads.Asked,
-  several-reads.Learnt,
-  finish-reads.Asked,
-  finish-reads.Learnt,
-  next-step-reads.Asked,
-  next-step-reads.Learnt,
-  small-without-reads.Asked,
-  small-without-reads.Learnt,
-  lowest-reads.Asked,
-  lowest-reads.Learnt,
-  set-without-reads.Asked,
-  set-without-reads.Learnt,
-  branch-below t,
-  branch.Post,
-) (extend-at t) extend.Post extend-Inv-loop extend-μ-loop
+extend-returns-2 : (t : ℕ) → extend-lts.Need-returns-2 (extend-claims t) (extend-at t) extend.Post extend-Inv-loop extend-μ-loop
 extend-returns-2 t c = (trial-tired _ _ _ _, c .before .before .before .loop .inv .sized)
 
-extend-sub-effort : (t : ℕ) → extend-lts.Need-sub-effort (
-  several-reads.Asked,
-  several-reads.Learnt,
-  finish-reads.Asked,
-  finish-reads.Learnt,
-  next-step-reads.Asked,
-  next-step-reads.Learnt,
-  small-without-reads.Asked,
-  small-without-reads.Learnt,
-  lowest-reads.Asked,
-  lowest-reads.Learnt,
-  set-without-reads.Asked,
-  set-without-reads.Learnt,
-  branch-below t,
-  branch.Post,
-) (extend-at t) extend.Post extend-Inv-loop extend-μ-loop
+extend-sub-effort : (t : ℕ) → extend-lts.Need-sub-effort (extend-claims t) (extend-at t) extend.Post extend-Inv-loop extend-μ-loop
 extend-sub-effort t c = omega arith
 
-extend-lowest-requires : (t : ℕ) → extend-lts.Need-lowest-requires (
-  several-reads.Asked,
-  several-reads.Learnt,
-  finish-reads.Asked,
-  finish-reads.Learnt,
-  next-step-reads.Asked,
-  next-step-reads.Learnt,
-  small-without-reads.Asked,
-  small-without-reads.Learnt,
-  lowest-reads.Asked,
-  lowest-reads.Learnt,
-  set-without-reads.Asked,
-  set-without-reads.Learnt,
-  branch-below t,
-  branch.Post,
-) (extend-at t) extend.Post extend-Inv-loop extend-μ-loop
+extend-lowest-requires : (t : ℕ) → extend-lts.Need-lowest-requires (extend-claims t) (extend-at t) extend.Post extend-Inv-loop extend-μ-loop
 extend-lowest-requires t c κs = omega arith
 
-extend-without-requires-2 : (t : ℕ) → extend-lts.Need-without-requires-2 (
-  several-reads.Asked,
-  several-reads.Learnt,
-  finish-reads.Asked,
-  finish-reads.Learnt,
-  next-step-reads.Asked,
-  next-step-reads.Learnt,
-  small-without-reads.Asked,
-  small-without-reads.Learnt,
-  lowest-reads.Asked,
-  lowest-reads.Learnt,
-  set-without-reads.Asked,
-  set-without-reads.Learnt,
-  branch-below t,
-  branch.Post,
-) (extend-at t) extend.Post extend-Inv-loop extend-μ-loop
+extend-without-requires-2 : (t : ℕ) → extend-lts.Need-without-requires-2 (extend-claims t) (extend-at t) extend.Post extend-Inv-loop extend-μ-loop
 extend-without-requires-2 t c κs = c .lowest .ensures .0
 
-extend-branch-requires : (t : ℕ) → extend-lts.Need-branch-requires (
-  several-reads.Asked,
-  several-reads.Learnt,
-  finish-reads.Asked,
-  finish-reads.Learnt,
-  next-step-reads.Asked,
-  next-step-reads.Learnt,
-  small-without-reads.Asked,
-  small-without-reads.Learnt,
-  lowest-reads.Asked,
-  lowest-reads.Learnt,
-  set-without-reads.Asked,
-  set-without-reads.Learnt,
-  branch-below t,
-  branch.Post,
-) (extend-at t) extend.Post extend-Inv-loop extend-μ-loop
+extend-branch-requires : (t : ℕ) → extend-lts.Need-branch-requires (extend-claims t) (extend-at t) extend.Post extend-Inv-loop extend-μ-loop
 extend-branch-requires t c κs =
     let q = c .before .before .before .before .before .before .before .before .before .before .before .before .before .pre .1 in
     let w = c .before .before .before .before .before .before .before .before .before .before .before .before .several .ensures in
@@ -373,173 +161,48 @@ extend-branch-requires t c κs =
     let gone = c .before .before .before .before .before .before .before .before .before .without .ensures in
     let le = several-le _ _ _ w in
     let less = removed-less (n .1) gone in
-    (omega arith, (q .0, q .1, q .2, c .before .before .before .before .before .before .before .loop .inv .sized, alone-others _ _ _ _ _ (several-alone _ _ _ _ (q .4) w) gone, q .4 .below _ (w .part _ (n .1)), c .before .before .before .lowest .ensures .0))
+    (omega arith, (q .0, q .1, c .before .before .before .before .before .before .before .loop .inv .sized, alone-others _ _ _ _ _ (several-alone _ _ _ _ (q .3) w) gone, q .3 .below _ (w .part _ (n .1)), c .before .before .before .lowest .ensures .0))
 
-extend-enum-told : (t : ℕ) → extend-lts.Need-enum-told (
-  several-reads.Asked,
-  several-reads.Learnt,
-  finish-reads.Asked,
-  finish-reads.Learnt,
-  next-step-reads.Asked,
-  next-step-reads.Learnt,
-  small-without-reads.Asked,
-  small-without-reads.Learnt,
-  lowest-reads.Asked,
-  lowest-reads.Learnt,
-  set-without-reads.Asked,
-  set-without-reads.Learnt,
-  branch-below t,
-  branch.Post,
-) (extend-at t) extend.Post extend-Inv-loop extend-μ-loop
+extend-enum-told : (t : ℕ) → extend-lts.Need-enum-told (extend-claims t) (extend-at t) extend.Post extend-Inv-loop extend-μ-loop
 extend-enum-told t c = search needs
 
-extend-returns-3 : (t : ℕ) → extend-lts.Need-returns-3 (
-  several-reads.Asked,
-  several-reads.Learnt,
-  finish-reads.Asked,
-  finish-reads.Learnt,
-  next-step-reads.Asked,
-  next-step-reads.Learnt,
-  small-without-reads.Asked,
-  small-without-reads.Learnt,
-  lowest-reads.Asked,
-  lowest-reads.Learnt,
-  set-without-reads.Asked,
-  set-without-reads.Learnt,
-  branch-below t,
-  branch.Post,
-) (extend-at t) extend.Post extend-Inv-loop extend-μ-loop
+extend-returns-3 : (t : ℕ) → extend-lts.Need-returns-3 (extend-claims t) (extend-at t) extend.Post extend-Inv-loop extend-μ-loop
 extend-returns-3 t c =
     let q = c .before .before .before .before .before .before .before .before .before .before .before .before .before .before .before .before .pre .1 in
     let w = c .before .before .before .before .before .before .before .before .before .before .before .before .before .before .before .several .ensures in
     let n = c .before .before .before .before .before .before .before .before .before .before .before .before .before .next-step .ensures in
     let low = c .before .before .before .before .before .before .lowest .ensures in
-    let below = q .4 .below _ (w .part _ (n .1)) in (
-      untried-found _ _ _ (q .2) below (q .0 .few-steps) _ _ _ (c .before .before .before .before .before .before .before .before .before .before .loop .inv) (low .0) (low .1) _ _
-          (λ e. alone-before _ _ _ _ (several-alone _ _ _ _ (q .4) w) below (n .2 e))
+    let below = q .3 .below _ (w .part _ (n .1)) in (
+      untried-found _ _ _ (q .1) below (q .0 .given .ruled .few-steps) _ _ _ (c .before .before .before .before .before .before .before .before .before .before .loop .inv) (low .0) (low .1) _ _
+          (λ e. alone-before _ _ _ _ (several-alone _ _ _ _ (q .3) w) below (n .2 e))
           (subst (Trial _ _ _ _) (c .enum-told .given .1) (c .before .before .branch .ensures .0)),
       c .before .before .branch .ensures .1,
     )
 
-extend-enum-told-2 : (t : ℕ) → extend-lts.Need-enum-told-2 (
-  several-reads.Asked,
-  several-reads.Learnt,
-  finish-reads.Asked,
-  finish-reads.Learnt,
-  next-step-reads.Asked,
-  next-step-reads.Learnt,
-  small-without-reads.Asked,
-  small-without-reads.Learnt,
-  lowest-reads.Asked,
-  lowest-reads.Learnt,
-  set-without-reads.Asked,
-  set-without-reads.Learnt,
-  branch-below t,
-  branch.Post,
-) (extend-at t) extend.Post extend-Inv-loop extend-μ-loop
+extend-enum-told-2 : (t : ℕ) → extend-lts.Need-enum-told-2 (extend-claims t) (extend-at t) extend.Post extend-Inv-loop extend-μ-loop
 extend-enum-told-2 t c = search needs
 
-extend-returns-4 : (t : ℕ) → extend-lts.Need-returns-4 (
-  several-reads.Asked,
-  several-reads.Learnt,
-  finish-reads.Asked,
-  finish-reads.Learnt,
-  next-step-reads.Asked,
-  next-step-reads.Learnt,
-  small-without-reads.Asked,
-  small-without-reads.Learnt,
-  lowest-reads.Asked,
-  lowest-reads.Learnt,
-  set-without-reads.Asked,
-  set-without-reads.Learnt,
-  branch-below t,
-  branch.Post,
-) (extend-at t) extend.Post extend-Inv-loop extend-μ-loop
+extend-returns-4 : (t : ℕ) → extend-lts.Need-returns-4 (extend-claims t) (extend-at t) extend.Post extend-Inv-loop extend-μ-loop
 extend-returns-4 t c = (trial-tired _ _ _ _, c .before .before .branch .ensures .1)
 
-extend-enum-told-3 : (t : ℕ) → extend-lts.Need-enum-told-3 (
-  several-reads.Asked,
-  several-reads.Learnt,
-  finish-reads.Asked,
-  finish-reads.Learnt,
-  next-step-reads.Asked,
-  next-step-reads.Learnt,
-  small-without-reads.Asked,
-  small-without-reads.Learnt,
-  lowest-reads.Asked,
-  lowest-reads.Learnt,
-  set-without-reads.Asked,
-  set-without-reads.Learnt,
-  branch-below t,
-  branch.Post,
-) (extend-at t) extend.Post extend-Inv-loop extend-μ-loop
+extend-enum-told-3 : (t : ℕ) → extend-lts.Need-enum-told-3 (extend-claims t) (extend-at t) extend.Post extend-Inv-loop extend-μ-loop
 extend-enum-told-3 t c = search needs
 
-extend-loop-less : (t : ℕ) → extend-lts.Need-loop-less (
-  several-reads.Asked,
-  several-reads.Learnt,
-  finish-reads.Asked,
-  finish-reads.Learnt,
-  next-step-reads.Asked,
-  next-step-reads.Learnt,
-  small-without-reads.Asked,
-  small-without-reads.Learnt,
-  lowest-reads.Asked,
-  lowest-reads.Learnt,
-  set-without-reads.Asked,
-  set-without-reads.Learnt,
-  branch-below t,
-  branch.Post,
-) (extend-at t) extend.Post extend-Inv-loop extend-μ-loop
+extend-loop-less : (t : ℕ) → extend-lts.Need-loop-less (extend-claims t) (extend-at t) extend.Post extend-Inv-loop extend-μ-loop
 extend-loop-less t c = removed-less (c .before .before .before .before .before .before .lowest .ensures .1 .has) (c .before .before .before .before .before .without2 .ensures)
 
-extend-loop-again : (t : ℕ) → extend-lts.Need-loop-again (
-  several-reads.Asked,
-  several-reads.Learnt,
-  finish-reads.Asked,
-  finish-reads.Learnt,
-  next-step-reads.Asked,
-  next-step-reads.Learnt,
-  small-without-reads.Asked,
-  small-without-reads.Learnt,
-  lowest-reads.Asked,
-  lowest-reads.Learnt,
-  set-without-reads.Asked,
-  set-without-reads.Learnt,
-  branch-below t,
-  branch.Post,
-) (extend-at t) extend.Post extend-Inv-loop extend-μ-loop
+extend-loop-again : (t : ℕ) → extend-lts.Need-loop-again (extend-claims t) (extend-at t) extend.Post extend-Inv-loop extend-μ-loop
 extend-loop-again t c =
     let q = c .before .before .before .before .before .before .before .before .before .before .before .before .before .before .before .before .pre .1 in
     let low = c .before .before .before .before .before .before .lowest .ensures in
-    untried-next _ _ _ (q .2) (q .4 .below _ (c .before .before .before .before .before .before .before .before .before .before .before .before .before .before .before .several .ensures .part _ (c .before .before .before .before .before .before .before .before .before .before .before .before .before .next-step .ensures .1))) (q .0 .few-steps) _ _ _ (c .before .before .before .before .before .before .before .before .before .before .loop .inv) (low .0) (low .1) _ _
+    untried-next _ _ _ (q .1) (q .3 .below _ (c .before .before .before .before .before .before .before .before .before .before .before .before .before .before .before .several .ensures .part _ (c .before .before .before .before .before .before .before .before .before .before .before .before .before .next-step .ensures .1))) (q .0 .given .ruled .few-steps) _ _ _ (c .before .before .before .before .before .before .before .before .before .before .loop .inv) (low .0) (low .1) _ _
     (c .before .before .branch .ensures .1) _ (c .before .before .before .before .before .without2 .ensures) (subst (Trial _ _ _ _) (c .enum-told3 .given .1) (c .before .before .branch .ensures .0))
 
-extend-returns-5 : (t : ℕ) → extend-lts.Need-returns-5 (
-  several-reads.Asked,
-  several-reads.Learnt,
-  finish-reads.Asked,
-  finish-reads.Learnt,
-  next-step-reads.Asked,
-  next-step-reads.Learnt,
-  small-without-reads.Asked,
-  small-without-reads.Learnt,
-  lowest-reads.Asked,
-  lowest-reads.Learnt,
-  set-without-reads.Asked,
-  set-without-reads.Learnt,
-  branch-below t,
-  branch.Post,
-) (extend-at t) extend.Post extend-Inv-loop extend-μ-loop
+extend-returns-5 : (t : ℕ) → extend-lts.Need-returns-5 (extend-claims t) (extend-at t) extend.Post extend-Inv-loop extend-μ-loop
 extend-returns-5 t c = (untried-none _ _ _ _ _ (c .before .loop .inv) (omega arith) _, c .before .loop .inv .sized)
 
 pub +branch+extend-spec : {M : Type 1} → statement M
-+branch+extend-spec = close μ-branch μ-extend (λ t. branch-lts.spec (
-  propagate-reads.Asked,
-  propagate-reads.Learnt,
-  extend-below t,
-  extend.Post,
-)
++branch+extend-spec = close μ-branch μ-extend (λ t. branch-lts.spec (branch-claims t)
     (branch-at t)
     branch.Post
     (branch-shl-next t)
@@ -551,22 +214,7 @@ pub +branch+extend-spec : {M : Type 1} → statement M
     (branch-returns t)
     (branch-extend-requires t)
     (branch-returns-2 t))
-    λ t. extend-lts.spec (
-      several-reads.Asked,
-      several-reads.Learnt,
-      finish-reads.Asked,
-      finish-reads.Learnt,
-      next-step-reads.Asked,
-      next-step-reads.Learnt,
-      small-without-reads.Asked,
-      small-without-reads.Learnt,
-      lowest-reads.Asked,
-      lowest-reads.Learnt,
-      set-without-reads.Asked,
-      set-without-reads.Learnt,
-      branch-below t,
-      branch.Post,
-    )
+    λ t. extend-lts.spec (extend-claims t)
     (extend-at t)
     extend.Post
     extend-Inv-loop

@@ -1,19 +1,35 @@
 -- `backtrack::attempt` meets its contract. Assumes nothing.
-use Rattle.backtrack.proofs.Classes.{given-small, given-massed, trial-named}
+use borrow.Author.Needs.{needs}
+use borrow.Author.Tests.{not-true, not-false}
+use Rattle.backtrack.proofs.Extending.{narrowed-trial, narrowed-lost}
+use Rattle.backtrack.proofs.Ordering.{all-alone}
 use Rattle.backtrack.proofs.attempt.Statement.{statement}
 use Rattle.backtrack.proofs.attempt.Tie as tie
 
-mates-requires : tie.Need-mates-requires
-mates-requires c κs = (c .pre .0 .few-people, c .pre .0 .few-levels, c .pre .0 .classes, given-small _ _ _ _ _ _ _ _ _ (c .pre .0))
+below-requires : tie.Need-below-requires
+below-requires c κs = search needs
 
-naming-requires : tie.Need-naming-requires
-naming-requires c κs = (c .before .pre .0 .few-steps, c .before .pre .0 .few-rules, c .before .pre .0 .scopes)
-
-from-masks-requires : tie.Need-from-masks-requires
-from-masks-requires c κs = (given-massed _ _ _ _ _ _ _ _ _ (c .before .before .before .before .before .pre .0) _ (c .before .before .before .before .mates .ensures .0) (c .before .before .before .before .mates .ensures .1), c .before .before .before .naming .ensures .sized, c .before .before .before .before .before .pre .1, c .before .before .before .before .before .pre .2)
+propagate-requires : tie.Need-propagate-requires
+propagate-requires c κs = search needs
 
 returns : tie.Need-returns
-returns c = (trial-named _ _ _ _ _ _ _ _ _ (c .before .before .before .before .before .before .pre .0) _ (c .before .before .before .before .before .mates .ensures .0) (c .before .before .before .before .before .mates .ensures .1) _ _ _ _ (c .from-masks .ensures .0), c .from-masks .ensures .1)
+returns c = (narrowed-lost _ _ _ _ _ _ (c .before .propagate .ensures) (not-true _ (c .if1 .taken)), c .before .before .before .before .before .before .pre .2)
+
+below-requires-2 : tie.Need-below-requires-2
+below-requires-2 c κs = search needs
+
+extend-requires : tie.Need-extend-requires
+extend-requires c κs =
+    let p = c .before .before .before .before .before in
+    let q = p .before .before .before .before .before .pre in
+    (q .0, p .propagate .ensures .fewer .sized, q .2, all-alone _ _ _ (c .before .before .before .below2 .ensures))
+
+returns-2 : tie.Need-returns-2
+returns-2 c =
+    let p = c .before .before .before .before .before .before in
+    (narrowed-trial _ _ _ _ _ _ (p .propagate .ensures) (not-false _ (c .before .before .before .before .before .if1 .left)) _ (c .extend .ensures .0), c .extend .ensures .1)
 
 pub attempt-spec : {M : Type 1} → statement M
-attempt-spec = tie.close (tie.spec mates-requires naming-requires from-masks-requires returns)
+attempt-spec =
+    tie.close
+    (tie.spec below-requires propagate-requires returns below-requires-2 extend-requires returns-2)

@@ -1,33 +1,21 @@
--- `crew::plan_job` meets its contract: the arrays pose the problem of the sheet, and the levels left out change no plan. Assumes nothing.
-use mathlib.Core.Path.{sym, _∙_}
-use Rattle.tables.proofs.Same.{posed-first}
-use Rattle.crew.proofs.Posed.{given, levelled}
-use borrow.Author.Needs.{needs}
+-- The job that the tables pose has the first plan of the sheet's. Assumes nothing.
+use mathlib.Core.Path.{_∙_, ap}
+use Prim.Native.Nat.{ℕ}
+use Rattle.first.specs.Settle.{answer}
+use Rattle.tables.proofs.Posing.{posed-first}
 use Rattle.crew.proofs.plan_job.Statement.{statement}
 use Rattle.crew.proofs.plan_job.Tie as tie
 
-classes-requires : tie.Need-classes-requires
-classes-requires c κs = search needs
-
-may-masks-requires : tie.Need-may-masks-requires
-may-masks-requires c κs = search needs
-
-keep-requires : tie.Need-keep-requires
-keep-requires c κs = (levelled _ _ _ _ (c .before .before .before .before .before .before .before .before .before .before .before .pre), c .before .before .before .before .before .before .classes .ensures .size)
+pose-requires : tie.Need-pose-requires
+pose-requires c κs = c .pre
 
 first-plan-requires : tie.Need-first-plan-requires
-first-plan-requires c κs = (
-  c .before .before .before .before .before .before .before .before .before .before .before .keep .ensures .given _ _ _ (given _ _ _ _ (c .before .before .before .before .before .before .before .before .before .before .before .before .before .before .before .before .before .before .before .before .before .before .before .pre) _ (c .before .before .before .before .before .before .before .before .before .before .before .before .before .before .before .before .before .before .classes .ensures)),
-  c .before .before .before .before .before .before .before .before .before .before .before .before .before .before .before .may-masks .ensures .size,
-)
+first-plan-requires c κs = let w = c .before .before .before .before .before .before .before .before .before .before .before .before .pose .ensures in (w .tabled, w .masks)
 
 returns : tie.Need-returns
 returns c =
-    sym (posed-first _ _ _ _ (c .before .before .before .before .before .before .before .before .before .before .before .before .before .before .before .before .before .before .before .before .before .before .before .before .pre) _ (c .before .before .before .before .before .before .before .before .before .before .before .before .before .before .before .before .before .before .before .classes .ensures) _ (c .before .before .before .before .before .before .before .before .before .before .before .before .before .before .before .before .may-masks .ensures))
-    ∙ sym (c .before .before .before .before .before .before .before .before .before .before .before .before .keep .ensures .first _ _ _ (given _ _ _ _ (c .before .before .before .before .before .before .before .before .before .before .before .before .before .before .before .before .before .before .before .before .before .before .before .before .pre) _ (c .before .before .before .before .before .before .before .before .before .before .before .before .before .before .before .before .before .before .before .classes .ensures)) _)
-    ∙ c .first-plan .ensures
+    let w = c .before .before .before .before .before .before .before .before .before .before .before .before .before .pose .ensures in
+    posed-first w ∙ c .first-plan .ensures ∙ ap (λ (n : ℕ). answer n (c .first-plan .result .found) (c .first-plan .result .plan)) (w .same .steps)
 
 pub plan-job-spec : {M : Type 1} → statement M
-plan-job-spec =
-    tie.close
-    (tie.spec classes-requires may-masks-requires keep-requires first-plan-requires returns)
+plan-job-spec = tie.close (tie.spec pose-requires first-plan-requires returns)

@@ -14,13 +14,13 @@ enum-told : tie.Need-enum-told
 enum-told c = search needs
 
 returns : tie.Need-returns
-returns c = first-found (jobIn (c .before .before .before .before .args .size .steps) (c .before .before .before .before .args .size .people) (c .before .before .before .before .args .size .levels) (c .before .before .before .before .args .class .now) (c .before .before .before .before .args .size .rules) (c .before .before .before .before .args .kind .now) (c .before .before .before .before .args .level .now) (c .before .before .before .before .args .limit .now) (c .before .before .before .before .args .scope .now)) (c .before .before .before .before .args .may .now) _ (subst (Trial _ _ _ _) (c .enum-told .given .1) (c .before .before .attempt .ensures .0))
+returns c = first-found (jobIn (c .before .before .before .before .args .size) (c .before .before .before .before .args .class .now) (c .before .before .before .before .args .rule .now)) (c .before .before .before .before .args .may .now) _ (subst (Trial _ _ _ _) (c .enum-told .given .1) (c .before .before .attempt .ensures .0))
 
 enum-told-2 : tie.Need-enum-told-2
 enum-told-2 c = search needs
 
 returns-2 : tie.Need-returns-2
-returns-2 c = first-absent (jobIn (c .before .before .before .before .args .size .steps) (c .before .before .before .before .args .size .people) (c .before .before .before .before .args .size .levels) (c .before .before .before .before .args .class .now) (c .before .before .before .before .args .size .rules) (c .before .before .before .before .args .kind .now) (c .before .before .before .before .args .level .now) (c .before .before .before .before .args .limit .now) (c .before .before .before .before .args .scope .now)) (c .before .before .before .before .args .may .now) _ (subst (Trial _ _ _ _) (c .enum-told2 .given .1) (c .before .before .attempt .ensures .0))
+returns-2 c = first-absent (jobIn (c .before .before .before .before .args .size) (c .before .before .before .before .args .class .now) (c .before .before .before .before .args .rule .now)) (c .before .before .before .before .args .may .now) _ (subst (Trial _ _ _ _) (c .enum-told2 .given .1) (c .before .before .attempt .ensures .0))
 
 enum-told-3 : tie.Need-enum-told-3
 enum-told-3 c = search needs

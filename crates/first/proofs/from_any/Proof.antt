@@ -1,4 +1,4 @@
--- `first::first_plan` meets its contract: the steps passed are settled, and the first plan is the same. Assumes nothing.
+-- `first::from_any` meets its contract: the steps passed are settled, and the first plan is the same. Assumes nothing.
 use mathlib.Core.Path.{_≡_, refl}
 use Prim.Native.Nat.{_≤_, _-_}
 use native.Mathlib.Omega.{arith}
@@ -11,16 +11,16 @@ use Rattle.first.proofs.from_any.Statement.{statement}
 use Rattle.first.proofs.from_any.Tie as tie
 
 abbrev Inv-loop : tie.InvT-loop
-Inv-loop size class kind level limit scope may weight₀ plan₀ left₀ steps s₀ weight plan left s =
+Inv-loop size class crowd rule of may weight₀ plan₀ left₀ steps s₀ weight plan left s =
     (s ≤ size .steps)
     × (length weight ≡ 12)
-    × Settled (jobIn (size .steps) (size .people) (size .levels) class (size .rules) kind level limit scope) s may left plan
+    × Settled (jobIn size class rule) s may left plan
 
 abbrev μ-loop : tie.MeasureT-loop
-μ-loop size class kind level limit scope may weight₀ plan₀ left₀ steps s₀ weight plan left s = size .steps - s
+μ-loop size class crowd rule of may weight₀ plan₀ left₀ steps s₀ weight plan left s = size .steps - s
 
 weights-requires : tie.Need-weights-requires Inv-loop μ-loop
-weights-requires c κs = (c .pre .0 .few-steps, c .pre .0 .few-rules, c .pre .0 .scopes)
+weights-requires c κs = c .pre .0 .naming .sized
 
 exists-requires : tie.Need-exists-requires Inv-loop μ-loop
 exists-requires c κs = (c .before .before .before .pre .0, c .before .before .before .pre .1, c .before .before .weights .ensures, refl)
@@ -31,7 +31,7 @@ returns c = first-none (c .before .before .before .before .before .args .may .no
 loop-holds : tie.Need-loop-holds Inv-loop μ-loop
 loop-holds c =
     let x = c .before .before .exists .ensures in
-    let plan = c .before .before .exists .last .1 .1 .1 .1 .1 .1 .1 .1 .0 in (
+    let plan = c .before .before .exists .last .1 .1 .1 .1 .1 .1 .1 .0 in (
       omega arith,
       x .1,
       settled-start (c .before .before .before .before .before .before .args .may .now) plan (c .before .before .before .before .before .before .pre .1) (x .0 .sized) (first-standing plan (x .0 .won (not-false (c .before .before .exists .result) (c .before .if1 .left)))),
@@ -43,7 +43,7 @@ settle-requires c κs =
     (c .before .before .before .before .before .before .before .before .before .before .before .pre .0, v .2 .masks, v .1, v .2 .sized, c .before .before .before .loop-test .taken, v .2 .standing)
 
 add-s : tie.Need-add-s Inv-loop μ-loop
-add-s c = omega (arith, c .before .before .before .before .loop-test .taken, c .before .before .before .before .before .before .before .before .before .before .before .before .pre .0 .few-steps)
+add-s c = omega (arith, c .before .before .before .before .loop-test .taken, c .before .before .before .before .before .before .before .before .before .before .before .before .pre .0 .given .ruled .few-steps)
 
 loop-less : tie.Need-loop-less Inv-loop μ-loop
 loop-less c = omega (arith, c .before .before .before .before .loop-test .taken)

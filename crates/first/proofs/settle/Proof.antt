@@ -10,34 +10,34 @@ use Rattle.first.proofs.settle.Statement.{statement}
 use Rattle.first.proofs.settle.Tie as tie
 
 abbrev Inv-loop : tie.InvT-loop
-Inv-loop size class kind level limit scope s may₀ weight₀ plan₀ p left₀ may weight plan left =
+Inv-loop size class crowd rule of s may₀ weight₀ plan₀ p left₀ may weight plan left =
     (length weight ≡ 12)
     × (length plan ≡ 12)
-    × Looking (jobIn (size .steps) (size .people) (size .levels) class (size .rules) kind level limit scope) s may₀ may plan₀ plan left
+    × Looking (jobIn size class rule) s may₀ may plan₀ plan left
 
 abbrev μ-loop : tie.MeasureT-loop
-μ-loop size class kind level limit scope s may₀ weight₀ plan₀ p left₀ may weight plan left = left
+μ-loop size class crowd rule of s may₀ weight₀ plan₀ p left₀ may weight plan left = left
 
 element-copy-out-p : tie.Need-element-copy-out-p Inv-loop μ-loop
-element-copy-out-p c = omega (arith, c .pre .0 .few-steps, c .pre .4)
+element-copy-out-p c = omega (arith, c .pre .0 .given .ruled .few-steps, c .pre .4)
 
 mul-left : tie.Need-mul-left Inv-loop μ-loop
-mul-left c = omega (arith, c .before .pre .0 .few-steps, c .before .pre .4)
+mul-left c = omega (arith, c .before .pre .0 .given .ruled .few-steps, c .before .pre .4)
 
 element-copy-out-left : tie.Need-element-copy-out-left Inv-loop μ-loop
-element-copy-out-left c = omega (arith, c .before .pre .0 .few-steps, c .before .pre .4)
+element-copy-out-left c = omega (arith, c .before .pre .0 .given .ruled .few-steps, c .before .pre .4)
 
 cast-left : tie.Need-cast-left Inv-loop μ-loop
-cast-left c = omega (arith, standing-person (c .before .before .args .plan .now) (c .before .before .pre .5) (c .before .before .pre .4) (c .before .before .pre .0 .few-people))
+cast-left c = omega (arith, standing-person (c .before .before .args .plan .now) (c .before .before .pre .5) (c .before .before .pre .4) (c .before .before .pre .0 .given .few-people))
 
 shl-left : tie.Need-shl-left Inv-loop μ-loop
-shl-left c = standing-person (c .before .before .args .plan .now) (c .before .before .pre .5) (c .before .before .pre .4) (c .before .before .pre .0 .few-people)
+shl-left c = standing-person (c .before .before .args .plan .now) (c .before .before .pre .5) (c .before .before .pre .4) (c .before .before .pre .0 .given .few-people)
 
 rem-left : tie.Need-rem-left Inv-loop μ-loop
-rem-left c = bit-word-pos _ (standing-person (c .before .before .args .plan .now) (c .before .before .pre .5) (c .before .before .pre .4) (c .before .before .pre .0 .few-people))
+rem-left c = bit-word-pos _ (standing-person (c .before .before .args .plan .now) (c .before .before .pre .5) (c .before .before .pre .4) (c .before .before .pre .0 .given .few-people))
 
 loop-holds : tie.Need-loop-holds Inv-loop μ-loop
-loop-holds c = (c .before .before .pre .2, c .before .before .pre .3, looking-start (c .before .before .args .may .now) (c .before .before .args .plan .now) (c .before .before .pre .5) (c .before .before .pre .1) (c .before .before .pre .3) (c .before .before .pre .4) (c .before .before .pre .0 .few-steps) (c .before .before .pre .0 .few-people))
+loop-holds c = (c .before .before .pre .2, c .before .before .pre .3, looking-start (c .before .before .args .may .now) (c .before .before .args .plan .now) (c .before .before .pre .5) (c .before .before .pre .1) (c .before .before .pre .3) (c .before .before .pre .4) (c .before .before .pre .0 .given .ruled .few-steps) (c .before .before .pre .0 .given .few-people))
 
 lowest-requires : tie.Need-lowest-requires Inv-loop μ-loop
 lowest-requires c κs = c .loop-test .taken
@@ -49,10 +49,10 @@ shl-may : tie.Need-shl-may Inv-loop μ-loop
 shl-may c = c .before .lowest .ensures .0
 
 mul-may : tie.Need-mul-may Inv-loop μ-loop
-mul-may c = omega (arith, c .before .before .before .before .before .before .pre .0 .few-steps, c .before .before .before .before .before .before .pre .4)
+mul-may c = omega (arith, c .before .before .before .before .before .before .pre .0 .given .ruled .few-steps, c .before .before .before .before .before .before .pre .4)
 
 element-write-may : tie.Need-element-write-may Inv-loop μ-loop
-element-write-may c = omega (arith, c .before .before .before .before .before .before .pre .0 .few-steps, c .before .before .before .before .before .before .pre .4, c .before .before .before .loop .inv .2 .masks)
+element-write-may c = omega (arith, c .before .before .before .before .before .before .pre .0 .given .ruled .few-steps, c .before .before .before .before .before .before .pre .4, c .before .before .before .loop .inv .2 .masks)
 
 exists-requires : tie.Need-exists-requires Inv-loop μ-loop
 exists-requires c κs =
@@ -62,7 +62,7 @@ exists-requires c κs =
 returns : tie.Need-returns Inv-loop μ-loop
 returns c =
     let low = c .before .before .before .before .before .before .lowest .ensures in
-    (settled-found (c .before .before .before .before .before .before .before .before .before .before .before .args .may .now) (c .before .before .before .before .before .before .before .before .before .before .before .args .plan .now) (c .before .before .before .before .before .before .before .before .before .before .before .pre .5) (c .before .before .before .before .before .before .before .before .before .before .before .pre .1) (c .before .before .before .before .before .before .before .before .before .before .before .pre .3) (c .before .before .before .before .before .before .before .before .before .before .before .pre .4) (c .before .before .before .before .before .before .before .before .before .before .before .pre .0 .few-steps) (c .before .before .before .before .before .before .before .before .before .before .before .pre .0 .few-people) (c .before .before .before .before .before .before .before .before .loop .inv .2) (low .0) (low .1) (c .before .exists .ensures .0) (c .if1 .taken), c .before .exists .ensures .1)
+    (settled-found (c .before .before .before .before .before .before .before .before .before .before .before .args .may .now) (c .before .before .before .before .before .before .before .before .before .before .before .args .plan .now) (c .before .before .before .before .before .before .before .before .before .before .before .pre .5) (c .before .before .before .before .before .before .before .before .before .before .before .pre .1) (c .before .before .before .before .before .before .before .before .before .before .before .pre .3) (c .before .before .before .before .before .before .before .before .before .before .before .pre .4) (c .before .before .before .before .before .before .before .before .before .before .before .pre .0 .given .ruled .few-steps) (c .before .before .before .before .before .before .before .before .before .before .before .pre .0 .given .few-people) (c .before .before .before .before .before .before .before .before .loop .inv .2) (low .0) (low .1) (c .before .exists .ensures .0) (c .if1 .taken), c .before .exists .ensures .1)
 
 loop-less : tie.Need-loop-less Inv-loop μ-loop
 loop-less c = removed-less (c .before .before .before .before .before .before .lowest .ensures .1 .has) (c .before .before .before .before .before .without .ensures)
@@ -71,22 +71,22 @@ loop-again : tie.Need-loop-again Inv-loop μ-loop
 loop-again c =
     let low = c .before .before .before .before .before .before .lowest .ensures in
     let x = c .before .exists .ensures in
-    (x .1, x .0 .sized, looking-next (c .before .before .before .before .before .before .before .before .before .before .before .args .may .now) (c .before .before .before .before .before .before .before .before .before .before .before .args .plan .now) (c .before .before .before .before .before .before .before .before .before .before .before .pre .5) (c .before .before .before .before .before .before .before .before .before .before .before .pre .1) (c .before .before .before .before .before .before .before .before .before .before .before .pre .3) (c .before .before .before .before .before .before .before .before .before .before .before .pre .4) (c .before .before .before .before .before .before .before .before .before .before .before .pre .0 .few-steps) (c .before .before .before .before .before .before .before .before .before .before .before .pre .0 .few-people) (c .before .before .before .before .before .before .before .before .loop .inv .2) (low .0) (low .1) (x .0) _ (c .before .before .before .before .before .without .ensures) (c .if1 .left))
+    (x .1, x .0 .sized, looking-next (c .before .before .before .before .before .before .before .before .before .before .before .args .may .now) (c .before .before .before .before .before .before .before .before .before .before .before .args .plan .now) (c .before .before .before .before .before .before .before .before .before .before .before .pre .5) (c .before .before .before .before .before .before .before .before .before .before .before .pre .1) (c .before .before .before .before .before .before .before .before .before .before .before .pre .3) (c .before .before .before .before .before .before .before .before .before .before .before .pre .4) (c .before .before .before .before .before .before .before .before .before .before .before .pre .0 .given .ruled .few-steps) (c .before .before .before .before .before .before .before .before .before .before .before .pre .0 .given .few-people) (c .before .before .before .before .before .before .before .before .loop .inv .2) (low .0) (low .1) (x .0) _ (c .before .before .before .before .before .without .ensures) (c .if1 .left))
 
 cast-may : tie.Need-cast-may Inv-loop μ-loop
-cast-may c = omega (arith, standing-person (c .before .before .before .before .args .plan .now) (c .before .before .before .before .pre .5) (c .before .before .before .before .pre .4) (c .before .before .before .before .pre .0 .few-people))
+cast-may c = omega (arith, standing-person (c .before .before .before .before .args .plan .now) (c .before .before .before .before .pre .5) (c .before .before .before .before .pre .4) (c .before .before .before .before .pre .0 .given .few-people))
 
 shl-may-2 : tie.Need-shl-may-2 Inv-loop μ-loop
-shl-may-2 c = standing-person (c .before .before .before .before .args .plan .now) (c .before .before .before .before .pre .5) (c .before .before .before .before .pre .4) (c .before .before .before .before .pre .0 .few-people)
+shl-may-2 c = standing-person (c .before .before .before .before .args .plan .now) (c .before .before .before .before .pre .5) (c .before .before .before .before .pre .4) (c .before .before .before .before .pre .0 .given .few-people)
 
 mul-may-2 : tie.Need-mul-may-2 Inv-loop μ-loop
-mul-may-2 c = omega (arith, c .before .before .before .before .pre .0 .few-steps, c .before .before .before .before .pre .4)
+mul-may-2 c = omega (arith, c .before .before .before .before .pre .0 .given .ruled .few-steps, c .before .before .before .before .pre .4)
 
 element-write-may-2 : tie.Need-element-write-may-2 Inv-loop μ-loop
-element-write-may-2 c = omega (arith, c .before .before .before .before .pre .0 .few-steps, c .before .before .before .before .pre .4, c .before .loop .inv .2 .masks)
+element-write-may-2 c = omega (arith, c .before .before .before .before .pre .0 .given .ruled .few-steps, c .before .before .before .before .pre .4, c .before .loop .inv .2 .masks)
 
 returns-2 : tie.Need-returns-2 Inv-loop μ-loop
-returns-2 c = (settled-none (c .before .before .before .before .args .may .now) (c .before .before .before .before .args .plan .now) (c .before .before .before .before .pre .5) (c .before .before .before .before .pre .1) (c .before .before .before .before .pre .3) (c .before .before .before .before .pre .4) (c .before .before .before .before .pre .0 .few-steps) (c .before .before .before .before .pre .0 .few-people) (c .before .loop .inv .2) (omega arith), c .before .loop .inv .0)
+returns-2 c = (settled-none (c .before .before .before .before .args .may .now) (c .before .before .before .before .args .plan .now) (c .before .before .before .before .pre .5) (c .before .before .before .before .pre .1) (c .before .before .before .before .pre .3) (c .before .before .before .before .pre .4) (c .before .before .before .before .pre .0 .given .ruled .few-steps) (c .before .before .before .before .pre .0 .given .few-people) (c .before .loop .inv .2) (omega arith), c .before .loop .inv .0)
 
 pub settle-spec : {M : Type 1} → statement M
 settle-spec =

@@ -1,28 +1,31 @@
 -- `levels::marks` meets its contract: the levels of the rules passed are marked. Assumes nothing.
 use Prim.Native.Nat.{_≤_, _-_}
 use native.Mathlib.Omega.{arith}
-use Rattle.levels.specs.Trims.{Marks}
 use Rattle.levels.proofs.Numbering.{marks-more}
+use Rattle.levels.specs.Trims.{Marks}
 use Rattle.levels.proofs.marks.Statement.{statement}
 use Rattle.levels.proofs.marks.Tie as tie
 
 abbrev Inv-loop : tie.InvT-loop
-Inv-loop levels rules level all₀ i₀ all i = (i ≤ rules) × Marks i level all
+Inv-loop rules rule all₀ i₀ all i = (i ≤ rules) × Marks i rule all
 
 abbrev μ-loop : tie.MeasureT-loop
-μ-loop levels rules level all₀ i₀ all i = rules - i
+μ-loop rules rule all₀ i₀ all i = rules - i
 
 loop-holds : tie.Need-loop-holds Inv-loop μ-loop
 loop-holds c = (omega arith, λ i l. absurd (omega arith))
 
-element-copy-out-with : tie.Need-element-copy-out-with Inv-loop μ-loop
-element-copy-out-with c = omega arith
+mul-level : tie.Need-mul-level Inv-loop μ-loop
+mul-level c = omega arith
 
-cast-with : tie.Need-cast-with Inv-loop μ-loop
-cast-with c = omega (arith, c .before .before .before .pre .to (c .before .before .loop .i) (c .before .loop-test .taken))
+element-copy-out-level : tie.Need-element-copy-out-level Inv-loop μ-loop
+element-copy-out-level c = omega (arith, c .before .before .pre .0)
+
+level-requires : tie.Need-level-requires Inv-loop μ-loop
+level-requires c κs = tt
 
 with-requires : tie.Need-with-requires Inv-loop μ-loop
-with-requires c κs = omega (arith, c .before .before .before .pre .to (c .before .before .loop .i) (c .before .loop-test .taken))
+with-requires c κs = c .level .ensures .1
 
 add-i : tie.Need-add-i Inv-loop μ-loop
 add-i c = omega arith
@@ -31,7 +34,9 @@ loop-less : tie.Need-loop-less Inv-loop μ-loop
 loop-less c = omega arith
 
 loop-again : tie.Need-loop-again Inv-loop μ-loop
-loop-again c = (omega arith, marks-more (c .before .before .before .loop .i) (c .before .before .before .loop .all) (c .with .result) (c .before .before .before .before .args .level .now) (c .with .ensures) (c .before .before .before .loop .inv .1))
+loop-again c =
+    let l = c .before .before .before .before .loop in
+    (omega arith, marks-more (l .i) (l .all) (c .before .level .result) (c .with .result) (c .before .before .before .before .before .args .rule .now) (c .before .level .ensures .0) (c .with .ensures) (l .inv .1))
 
 returns : tie.Need-returns Inv-loop μ-loop
 returns c = λ i l. c .before .loop .inv .1 i (omega arith)
@@ -43,8 +48,9 @@ marks-spec =
     Inv-loop
     μ-loop
     loop-holds
-    element-copy-out-with
-    cast-with
+    mul-level
+    element-copy-out-level
+    level-requires
     with-requires
     add-i
     loop-less

@@ -4,14 +4,14 @@ use borrow.Author.Needs.{needs}
 use Rattle.realize.proofs.realizable.Statement.{statement}
 use Rattle.realize.proofs.realizable.Tie as tie
 
-everybody-requires : tie.Need-everybody-requires
-everybody-requires c κs = search needs
+below-requires : tie.Need-below-requires
+below-requires c κs = search needs
 
 decide-requires : tie.Need-decide-requires
 decide-requires c κs = c .before .pre .0
 
 returns : tie.Need-returns
-returns c = decided-realizable (c .before .everybody .ensures) (c .before .before .pre .2) (c .decide .ensures)
+returns c = decided-realizable (c .before .below .ensures) (c .decide .ensures)
 
 pub realizable-spec : {M : Type 1} → statement M
-realizable-spec = tie.close (tie.spec everybody-requires decide-requires returns)
+realizable-spec = tie.close (tie.spec below-requires decide-requires returns)

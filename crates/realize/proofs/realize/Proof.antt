@@ -4,14 +4,14 @@ use borrow.Author.Needs.{needs}
 use Rattle.realize.proofs.realize.Statement.{statement}
 use Rattle.realize.proofs.realize.Tie as tie
 
-everybody-requires : tie.Need-everybody-requires
-everybody-requires c κs = search needs
+below-requires : tie.Need-below-requires
+below-requires c κs = search needs
 
 fill-requires : tie.Need-fill-requires
-fill-requires c κs = (c .before .before .pre .0, c .before .before .pre .3)
+fill-requires c κs = (c .before .before .pre .0, c .before .before .pre .2)
 
 returns : tie.Need-returns
-returns c = filled-realizing (c .before .before .everybody .ensures) (c .before .before .before .pre .2) (c .fill .ensures)
+returns c = filled-realizing (c .before .before .below .ensures) (c .fill .ensures)
 
 pub realize-spec : {M : Type 1} → statement M
-realize-spec = tie.close (tie.spec everybody-requires fill-requires returns)
+realize-spec = tie.close (tie.spec below-requires fill-requires returns)

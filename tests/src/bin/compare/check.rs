@@ -1,11 +1,12 @@
 //! One sheet through both calls: the number, every byte of the area and those around it, and the sheet itself.
 
-use crate::tally::Tally;
-use sheet_tests::answers::{answer, room, Answer, Call, NO_PLAN};
-use sheet_tests::garble::Sample;
-use sheet_tests::library;
-use sheet_tests::model::read;
-use sheet_tests::random::Random;
+use model::answers::{answer, room, Answer, Call};
+use model::garble::Sample;
+use model::library;
+use model::random::Random;
+use model::reader::read;
+use model::refusal::{is_no_plan, Refusal};
+use sheet_tests::tally::Tally;
 
 /// Bytes on each side of the answer area that nobody may touch.
 const MARGIN: usize = 32;
@@ -42,16 +43,16 @@ fn outcome(call: Call, answer: &Answer) -> String {
         Call::Crew => "crew",
         Call::Spare { .. } => "spare",
     };
-    match (answer.number, call) {
-        (0, Call::Crew) => format!("{name}, a plan"),
-        (0, Call::Spare { cap }) => format!("{name}, {} of {cap}", answer.area[0]),
-        (number, _) => format!("{name}, refusal {:2}", number / 256),
+    match (Refusal::of(answer.number), call) {
+        (None, Call::Crew) => format!("{name}, a plan"),
+        (None, Call::Spare { cap }) => format!("{name}, {} of {cap}", answer.area[0]),
+        (Some(refusal), _) => format!("{name}, refusal {:2}", refusal.number),
     }
 }
 
 /// Of a job too large for the brute force only the kind of answer is known: a plan or none.
 fn loose_fault(found: &Answer, before: &[u8]) -> Option<String> {
-    let none = found.number == NO_PLAN * 256 && found.area == before;
+    let none = is_no_plan(found.number) && found.area == before;
     (found.number != 0 && !none).then(|| format!("number {} for a readable sheet", found.number))
 }
 

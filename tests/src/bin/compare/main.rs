@@ -1,16 +1,15 @@
 //! Compares the library with the brute force on random small sheets, more of them garbled than good.
 
 mod check;
-mod tally;
 
 use check::check;
-use sheet_tests::garble::sample_of;
-use sheet_tests::jobs::small_job;
-use sheet_tests::random::Random;
+use model::garble::sample_of;
+use model::jobs::small_job;
+use model::random::Random;
+use sheet_tests::tally::Tally;
 use std::env;
 use std::process::ExitCode;
 use std::time::{Duration, Instant, SystemTime, UNIX_EPOCH};
-use tally::Tally;
 
 const USAGE: &str = "usage: compare COUNT SEED [--seconds N]
        compare soak [SEED] [--seconds N]";
@@ -45,7 +44,7 @@ fn order(mut args: Vec<String>) -> Option<Order> {
 
 fn run(order: &Order) -> Tally {
     let mut random = Random::new(order.seed);
-    let mut tally = Tally::new(order.seed);
+    let mut tally = Tally::new("compare", order.seed);
     let limit = order.seconds.map(Duration::from_secs);
     let started = Instant::now();
     let mut reported = started;
@@ -70,10 +69,5 @@ fn main() -> ExitCode {
         return ExitCode::from(2);
     };
     println!("seed {}", order.seed);
-    let tally = run(&order);
-    tally.print();
-    if tally.failed > 0 || tally.passed == 0 {
-        return ExitCode::FAILURE;
-    }
-    ExitCode::SUCCESS
+    run(&order).end()
 }

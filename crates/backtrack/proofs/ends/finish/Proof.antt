@@ -15,7 +15,7 @@ judge-all-requires : tie.Need-judge-all-requires
 judge-all-requires c κs = search needs
 
 returns-2 : tie.Need-returns-2
-returns-2 c = (ended _ _ _ (c .before .before .before .before .pre .3) (taken-of (c .before .before .take .result) _ _ _ _ (c .before .if1 .left) (c .before .before .take .ensures .1)) _ (c .judge-all .ensures), c .before .before .take .ensures .0)
+returns-2 c = (ended _ _ _ (c .before .before .before .before .pre .4) (taken-of (c .before .before .take .result) _ _ _ _ (c .before .if1 .left) (c .before .before .take .ensures .1)) _ (c .judge-all .ensures), c .before .before .take .ensures .0)
 
 pub finish-spec : {M : Type 1} → statement M
 finish-spec = tie.close (tie.spec take-requires returns judge-all-requires returns-2)

@@ -1,80 +1,94 @@
 -- `backtrack::ends::judge` meets its contract. Assumes nothing.
+use mathlib.Core.Path.{_≡_, sym, subst, ap}
+use Prim.Native.Nat.{ℕ, _^_, _<_}
 use native.Mathlib.Omega.{arith}
-use mathlib.Core.Path.{refl}
-use Rattle.backtrack.proofs.Ending.{heads-few, judged-most, judged-least, judged-met, rule-tired}
+use lib.ListN.{getD}
 use borrow.Author.Needs.{needs}
+use Rattle.backtrack.proofs.Ending.{heads-few, judged-most, judged-least, judged-met, rule-tired}
+use Rattle.bits.specs.Word.{hasBit}
+use Rattle.narrow.proofs.Settling.{at-level}
+use Rattle.narrow.specs.Domains.{AtLevel}
+use Rattle.narrow.specs.Fixing.{Fixing}
+use Rattle.pattern.specs.Rule.{levelIn}
+use Rattle.pattern.specs.Tables.{classIn}
 use Rattle.backtrack.proofs.ends.judge.Statement.{statement}
 use Rattle.backtrack.proofs.ends.judge.Tie as tie
 
-element-copy-out-fixed : tie.Need-element-copy-out-fixed
-element-copy-out-fixed c = search needs
+mul-r : tie.Need-mul-r
+mul-r c = search needs
 
-cast-fixed : tie.Need-cast-fixed
-cast-fixed c = omega (arith, c .before .pre .0 .rule-ok _ (c .before .pre .1) .to, c .before .pre .0 .few-levels)
+element-copy-out-r : tie.Need-element-copy-out-r
+element-copy-out-r c = search needs
 
-mul-fixed : tie.Need-mul-fixed
-mul-fixed c = search needs
+level-requires : tie.Need-level-requires
+level-requires c κs = search needs
 
-element-copy-out-fixed-2 : tie.Need-element-copy-out-fixed-2
-element-copy-out-fixed-2 c = search needs
+scope-requires : tie.Need-scope-requires
+scope-requires c κs = search needs
 
 fixed-requires : tie.Need-fixed-requires
-fixed-requires c κs = (c .before .before .pre .0 .few-steps, c .before .before .pre .0 .few-people, c .before .before .pre .0 .few-levels, c .before .before .pre .0 .mated, c .before .before .pre .0 .rule-ok _ (c .before .before .pre .1) .from, c .before .before .pre .0 .rule-ok _ (c .before .before .pre .1) .to, c .before .before .pre .2)
+fixed-requires c κs =
+    let s = c .before .before .before in
+    let a = s .args in
+    let ok = s .pre .0 .ruled .rule-ok (a .i) (s .pre .2) in (
+      subst (AtLevel (a .size .people) (a .class .now) (a .crowd .now)) (sym (c .before .level .ensures .0)) (at-level (s .pre .0) (s .pre .1) _ (ok .from) (ok .to)),
+      s .pre .0 .ruled .few-steps,
+      subst (λ (m : ℕ). m < 2 ^ a .size .steps) (sym (c .scope .ensures)) (s .pre .0 .ruled .scopes (a .i) (s .pre .2)),
+      s .pre .3,
+    )
+
+-- what is settled at the rule's level
+settled : (c : tie.After-fixed) → let a = c .before .before .before .before .args in
+    Fixing (a .size .steps) (a .size .people) (classIn (a .class .now) (levelIn (getD (a .rule .now) (a .i) 0))) (c .before .scope .result) (a .dom .now) 0
+    (c .fixed .result .used) (c .fixed .result .heads) (c .fixed .result .wide)
+settled c =
+    let a = c .before .before .before .before .args in
+    subst (λ (q : ℕ). Fixing (a .size .steps) (a .size .people) (classIn (a .class .now) q) (c .before .scope .result) (a .dom .now) 0
+    (c .fixed .result .used) (c .fixed .result .heads) (c .fixed .result .wide)) (c .before .before .level .ensures .0) (c .fixed .ensures)
 
 returns : tie.Need-returns
 returns c = rule-tired _ _ _
 
 cast-groups : tie.Need-cast-groups
-cast-groups c = omega (arith, heads-few (c .before .before .before .fixed .ensures) (c .before .before .before .before .before .before .pre .0 .few-steps))
-
-element-copy-out-most : tie.Need-element-copy-out-most
-element-copy-out-most c = search needs
-
-element-copy-out-most-2 : tie.Need-element-copy-out-most-2
-element-copy-out-most-2 c = search needs
+cast-groups c = let f = c .before .before .before in omega (arith, heads-few (settled f) (f .before .before .before .before .pre .0 .ruled .few-steps))
 
 most-requires : tie.Need-most-requires
 most-requires c κs = search needs
 
 returns-2 : tie.Need-returns-2
-returns-2 c = judged-most _ _ (c .before .before .before .before .before .before .before .before .before .before .pre .0 .rule-ok _ (c .before .before .before .before .before .before .before .before .before .before .pre .1)) _ _ _ _ (λ s. refl) _ (c .before .before .before .before .before .before .before .fixed .ensures) (c .before .before .before .before .before .if1 .left) (c .before .before .before .before .before .before .before .before .before .before .pre .0 .few-steps) (omega (arith, c .before .most .ensures))
-
-element-copy-out-least : tie.Need-element-copy-out-least
-element-copy-out-least c = search needs
-
-element-copy-out-least-2 : tie.Need-element-copy-out-least-2
-element-copy-out-least-2 c = search needs
+returns-2 c =
+    let f = c .before .before .before .before .before in
+    let s = f .before .before .before .before in
+    judged-most _ _ (f .before .scope .result) _ _ _ (λ t. ap (λ (m : ℕ). hasBit m t) (f .before .scope .ensures)) _ (settled f) (c .before .before .before .if1 .left) (s .pre .0 .ruled .few-steps) (omega (arith, c .before .most .ensures, c .if2 .taken))
 
 least-requires : tie.Need-least-requires
 least-requires c κs = search needs
 
-cast-if3 : tie.Need-cast-if3
-cast-if3 c = search needs
-
 returns-3 : tie.Need-returns-3
-returns-3 c = judged-least _ _ (c .before .before .before .before .before .before .before .before .before .before .before .before .before .before .pre .0 .rule-ok _ (c .before .before .before .before .before .before .before .before .before .before .before .before .before .before .pre .1)) _ _ _ _ (λ s. refl) _ (c .before .before .before .before .before .before .before .before .before .before .before .fixed .ensures) (c .before .before .before .before .before .before .before .before .before .if1 .left) (c .before .before .before .before .before .before .before .before .before .before .before .before .before .before .pre .0 .few-steps) (omega (arith, c .before .least .ensures))
+returns-3 c =
+    let f = c .before .before .before .before .before .before .before in
+    let s = f .before .before .before .before in
+    judged-least _ _ (f .before .scope .result) _ _ _ (λ t. ap (λ (m : ℕ). hasBit m t) (f .before .scope .ensures)) _ (settled f) (c .before .before .before .before .before .if1 .left) (s .pre .0 .ruled .few-steps) (omega (arith, c .before .least .ensures, c .if3 .taken))
 
 returns-4 : tie.Need-returns-4
-returns-4 c = judged-met _ _ (c .before .before .before .before .before .before .before .before .before .before .before .before .before .before .pre .0 .rule-ok _ (c .before .before .before .before .before .before .before .before .before .before .before .before .before .before .pre .1)) _ _ _ _ (λ s. refl) _ (c .before .before .before .before .before .before .before .before .before .before .before .fixed .ensures) (c .before .before .before .before .before .before .before .before .before .if1 .left) (c .before .before .before .before .before .before .before .before .before .before .before .before .before .before .pre .0 .few-steps) (omega (arith, c .before .before .before .before .before .most .ensures)) (omega (arith, c .before .least .ensures))
+returns-4 c =
+    let f = c .before .before .before .before .before .before .before in
+    let s = f .before .before .before .before in
+    judged-met _ _ (f .before .scope .result) _ _ _ (λ t. ap (λ (m : ℕ). hasBit m t) (f .before .scope .ensures)) _ (settled f) (c .before .before .before .before .before .if1 .left) (s .pre .0 .ruled .few-steps) (omega (arith, c .before .before .before .most .ensures, c .before .before .if2 .left)) (omega (arith, c .before .least .ensures, c .if3 .left))
 
 pub judge-spec : {M : Type 1} → statement M
 judge-spec =
     tie.close
     (tie.spec
-    element-copy-out-fixed
-    cast-fixed
-    mul-fixed
-    element-copy-out-fixed-2
+    mul-r
+    element-copy-out-r
+    level-requires
+    scope-requires
     fixed-requires
     returns
     cast-groups
-    element-copy-out-most
-    element-copy-out-most-2
     most-requires
     returns-2
-    element-copy-out-least
-    element-copy-out-least-2
     least-requires
-    cast-if3
     returns-3
     returns-4)

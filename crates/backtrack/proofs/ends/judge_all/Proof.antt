@@ -11,16 +11,16 @@ use Rattle.backtrack.proofs.ends.judge_all.Statement.{statement}
 use Rattle.backtrack.proofs.ends.judge_all.Tie as tie
 
 abbrev Inv-loop : tie.InvT-loop
-Inv-loop size mates kind level limit scope dom rules i₀ i = (rules ≡ size .rules) × (i ≤ rules) × Judged (jobIn (size .steps) (size .people) (size .levels) mates (size .rules) kind level limit scope) i dom Found
+Inv-loop size class crowd rule dom rules i₀ i = (rules ≡ size .rules) × (i ≤ rules) × Judged (jobIn size class rule) i dom Found
 
 abbrev μ-loop : tie.MeasureT-loop
-μ-loop size mates kind level limit scope dom rules i₀ i = rules - i
+μ-loop size class crowd rule dom rules i₀ i = rules - i
 
 loop-holds : tie.Need-loop-holds Inv-loop μ-loop
 loop-holds c = (refl, omega arith, judged-none _ _)
 
 judge-requires : tie.Need-judge-requires Inv-loop μ-loop
-judge-requires c κs = (c .before .before .pre .0, omega arith, c .before .before .pre .1)
+judge-requires c κs = (c .before .before .pre .0, c .before .before .pre .1, omega arith, c .before .before .pre .2)
 
 enum-told : tie.Need-enum-told Inv-loop μ-loop
 enum-told c = search needs

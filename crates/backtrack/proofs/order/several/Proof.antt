@@ -4,7 +4,7 @@ use native.Mathlib.Omega.{arith}
 use borrow.Author.Tests.{not-false}
 use borrow.Author.Needs.{needs}
 use Rattle.bits.proofs.SetLaws.{has-below}
-use Rattle.narrow.proofs.Masks.{lowest-less}
+use Rattle.bits.proofs.Masks.{lowest-less}
 use Rattle.backtrack.proofs.Ordering.{Sifting, sifting-start, sifting-skip, sifting-drop}
 use Rattle.backtrack.proofs.order.several.Statement.{statement}
 use Rattle.backtrack.proofs.order.several.Tie as tie

@@ -2,7 +2,7 @@
 use Prim.Native.Nat.{_<_}
 use Rattle.bits.proofs.SetLaws.{has-below}
 use Rattle.pattern.specs.Tables.{classIn}
-use Rattle.narrow.proofs.Masks.{lowest-less}
+use Rattle.bits.proofs.Masks.{lowest-less}
 use Rattle.narrow.proofs.Parting.{Parting, parting-none, parting-skip, parting-take}
 use native.Mathlib.Omega.{arith}
 use borrow.Author.Needs.{needs}
@@ -10,13 +10,13 @@ use Rattle.narrow.proofs.apart.apart.Statement.{statement}
 use Rattle.narrow.proofs.apart.apart.Tie as tie
 
 abbrev Inv-loop : tie.InvT-loop
-Inv-loop people levels mates level steps used dom all₀ heads₀ left₀ all heads left = Parting people (classIn mates level) steps used dom left all heads
+Inv-loop people class crowd level steps used dom all₀ heads₀ left₀ all heads left = Parting people (classIn class level) steps used dom left all heads
 
 abbrev μ-loop : tie.MeasureT-loop
-μ-loop people levels mates level steps used dom all₀ heads₀ left₀ all heads left = left
+μ-loop people class crowd level steps used dom all₀ heads₀ left₀ all heads left = left
 
 loop-holds : tie.Need-loop-holds Inv-loop μ-loop
-loop-holds c = let a = c .args in parting-none (a .people) (classIn (a .mates .now) (a .level)) (a .steps) (a .used) (a .dom .now)
+loop-holds c = let a = c .args in parting-none (a .people) (classIn (a .class .now) (a .level)) (a .steps) (a .used) (a .dom .now)
 
 lowest-requires : tie.Need-lowest-requires Inv-loop μ-loop
 lowest-requires c κs = search needs
@@ -28,7 +28,7 @@ without-requires c κs = search needs
 below : (c : tie.After-without Inv-loop μ-loop) → c .before .lowest .result < 12
 below c =
     let s = c .before .lowest in
-    has-below 12 (c .before .before .before .before .args .steps) (s .result) (c .before .before .before .before .pre .5)
+    has-below 12 (c .before .before .before .before .args .steps) (s .result) (c .before .before .before .before .pre .1)
     (c .before .before .before .loop .inv .rest (s .result) (s .ensures .1 .has))
 
 mul-reach : tie.Need-mul-reach Inv-loop μ-loop
@@ -47,7 +47,7 @@ loop-again : tie.Need-loop-again Inv-loop μ-loop
 loop-again c =
     let a = c .before .before .before .before .before .before .before .args in
     let l = c .before .before .before .before .before .before .loop in
-    parting-skip (a .people) (classIn (a .mates .now) (a .level)) (a .steps) (a .used) (a .dom .now) (l .left) (l .all) (l .heads)
+    parting-skip (a .people) (classIn (a .class .now) (a .level)) (a .steps) (a .used) (a .dom .now) (l .left) (l .all) (l .heads)
     (c .before .before .before .before .lowest .result) (c .before .before .before .without .result) (l .inv) (c .before .before .before .without .ensures)
 
 with-requires : tie.Need-with-requires Inv-loop μ-loop
@@ -61,7 +61,7 @@ loop-again-2 c =
     let a = c .before .before .before .before .before .before .before .before .args in
     let l = c .before .before .before .before .before .before .before .loop in
     let s = c .before .before .before .before .before .lowest in
-    parting-take (a .people) (classIn (a .mates .now) (a .level)) (a .steps) (a .used) (a .dom .now) (l .left) (l .all) (l .heads) (s .result)
+    parting-take (a .people) (classIn (a .class .now) (a .level)) (a .steps) (a .used) (a .dom .now) (l .left) (l .all) (l .heads) (s .result)
     (c .before .before .before .before .without .result) (l .inv) (c .before .before .before .before .without .ensures) (c .before .before .reach .result)
     (c .with .result) (s .ensures .1) (c .before .before .reach .ensures) (c .before .if1 .left) (c .with .ensures)
 

@@ -1,7 +1,6 @@
 -- `narrow::fixed::fixed` meets its contract: the steps passed are settled or open, and the steps left fall. Assumes nothing.
-use Rattle.eligible.proofs.Open.{span-pos}
 use Rattle.pattern.specs.Tables.{classIn}
-use Rattle.narrow.proofs.Masks.{lowest-less}
+use Rattle.bits.proofs.Masks.{lowest-less}
 use Rattle.narrow.proofs.Settling.{Settling, settling-none, settling-wide, settling-joins, settling-new, settling-all}
 use native.Mathlib.Omega.{arith}
 use borrow.Author.Needs.{needs}
@@ -9,24 +8,15 @@ use Rattle.narrow.proofs.fixed.fixed.Statement.{statement}
 use Rattle.narrow.proofs.fixed.fixed.Tie as tie
 
 abbrev Inv-loop : tie.InvT-loop
-Inv-loop steps people levels mates level scope dom used₀ heads₀ wide₀ left₀ used heads wide left =
-    Settling steps people (classIn mates level) scope dom left used heads wide
+Inv-loop size class crowd level scope dom used₀ heads₀ wide₀ left₀ used heads wide left =
+    Settling (size .steps) (size .people) (classIn class level) scope dom left used heads wide
 
 abbrev μ-loop : tie.MeasureT-loop
-μ-loop steps people levels mates level scope dom used₀ heads₀ wide₀ left₀ used heads wide left = left
-
-cast-left : tie.Need-cast-left Inv-loop μ-loop
-cast-left c = search needs
-
-shl-left : tie.Need-shl-left Inv-loop μ-loop
-shl-left c = search needs
-
-rem-left : tie.Need-rem-left Inv-loop μ-loop
-rem-left c = span-pos (c .args .steps) (c .pre .0)
+μ-loop size class crowd level scope dom used₀ heads₀ wide₀ left₀ used heads wide left = left
 
 loop-holds : tie.Need-loop-holds Inv-loop μ-loop
 loop-holds c =
-    settling-none (c .args .steps) (c .args .people) (classIn (c .args .mates .now) (c .args .level)) (c .args .scope) (c .args .dom .now) (c .pre .0)
+    settling-none (c .args .size .steps) (c .args .size .people) (classIn (c .args .class .now) (c .args .level)) (c .args .scope) (c .args .dom .now) (c .pre .2)
 
 lowest-requires : tie.Need-lowest-requires Inv-loop μ-loop
 lowest-requires c κs = search needs
@@ -54,7 +44,7 @@ loop-again c =
     let a = c .before .before .before .before .before .before .before .before .args in
     let l = c .before .before .before .before .before .before .before .loop in
     let s = c .before .before .before .before .before .lowest in
-    settling-wide (a .steps) (a .people) (classIn (a .mates .now) (a .level)) (a .scope) (a .dom .now) (l .left) (l .used) (l .heads) (l .wide) (s .result)
+    settling-wide (a .size .steps) (a .size .people) (classIn (a .class .now) (a .level)) (a .scope) (a .dom .now) (l .left) (l .used) (l .heads) (l .wide) (s .result)
     (c .before .before .before .before .without .result) (l .inv) (s .ensures .1) (c .before .before .before .before .without .ensures) (c .with .result)
     (c .with .ensures)
 
@@ -66,7 +56,7 @@ loop-again-2 c =
     let a = c .before .before .before .before .before .before .before .before .args in
     let l = c .before .before .before .before .before .before .before .loop in
     let s = c .before .before .before .before .before .lowest in
-    settling-joins (a .steps) (a .people) (classIn (a .mates .now) (a .level)) (a .scope) (a .dom .now) (l .left) (l .used) (l .heads) (l .wide)
+    settling-joins (a .size .steps) (a .size .people) (classIn (a .class .now) (a .level)) (a .scope) (a .dom .now) (l .left) (l .used) (l .heads) (l .wide)
     (s .result) (c .before .before .before .before .without .result) (l .inv) (s .ensures .1) (c .before .before .before .before .without .ensures)
     (c .before .before .shared .result) (c .before .before .shared .ensures (c .before .if1 .left)) (c .if2 .taken)
 
@@ -82,7 +72,7 @@ loop-again-3 c =
     let a = c .before .before .before .before .before .before .before .before .before .args in
     let l = c .before .before .before .before .before .before .before .before .loop in
     let s = c .before .before .before .before .before .before .lowest in
-    settling-new (a .steps) (a .people) (classIn (a .mates .now) (a .level)) (a .scope) (a .dom .now) (l .left) (l .used) (l .heads) (l .wide) (s .result)
+    settling-new (a .size .steps) (a .size .people) (classIn (a .class .now) (a .level)) (a .scope) (a .dom .now) (l .left) (l .used) (l .heads) (l .wide) (s .result)
     (c .before .before .before .before .before .without .result) (l .inv) (s .ensures .1) (c .before .before .before .before .before .without .ensures)
     (c .before .before .before .shared .result) (c .before .before .before .shared .ensures (c .before .before .if1 .left)) (c .before .if2 .left)
     (c .with2 .result) (c .with2 .ensures)
@@ -91,7 +81,7 @@ returns : tie.Need-returns Inv-loop μ-loop
 returns c =
     let a = c .before .before .args in
     let l = c .before .loop in
-    settling-all (a .steps) (a .people) (classIn (a .mates .now) (a .level)) (a .scope) (a .dom .now) (l .left) (l .used) (l .heads) (l .wide) (l .inv)
+    settling-all (a .size .steps) (a .size .people) (classIn (a .class .now) (a .level)) (a .scope) (a .dom .now) (l .left) (l .used) (l .heads) (l .wide) (l .inv)
     (c .loop-test .left)
 
 pub fixed-spec : {M : Type 1} → statement M
@@ -100,9 +90,6 @@ fixed-spec =
     (tie.spec
     Inv-loop
     μ-loop
-    cast-left
-    shl-left
-    rem-left
     loop-holds
     lowest-requires
     without-requires

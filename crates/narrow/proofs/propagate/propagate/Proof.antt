@@ -9,19 +9,19 @@ use Rattle.narrow.proofs.propagate.propagate.Statement.{statement}
 use Rattle.narrow.proofs.propagate.propagate.Tie as tie
 
 abbrev Inv-loop : tie.InvT-loop
-Inv-loop size mates kind level limit scope of pending dom₀ effort₀ waiting₀ dom effort waiting =
-    Narrowed (jobIn (size .steps) (size .people) (size .levels) mates (size .rules) kind level limit scope) dom₀ dom true
+Inv-loop size class crowd rule of pending dom₀ effort₀ waiting₀ dom effort waiting =
+    Narrowed (jobIn size class rule) dom₀ dom true
 
 abbrev μ-loop : tie.MeasureT-loop
-μ-loop size mates kind level limit scope of pending dom₀ effort₀ waiting₀ dom effort waiting = effort
+μ-loop size class crowd rule of pending dom₀ effort₀ waiting₀ dom effort waiting = effort
 
 loop-holds : tie.Need-loop-holds Inv-loop μ-loop
 loop-holds c =
     let a = c .args in
     let g = c .pre in
     narrowed-none
-    (jobIn (a .size .steps) (a .size .people) (a .size .levels) (a .mates .now) (a .size .rules) (a .kind .now) (a .level .now) (a .limit .now) (a .scope .now))
-    (a .dom .now) (g .2)
+    (jobIn (a .size) (a .class .now) (a .rule .now))
+    (a .dom .now) (g .1)
 
 returns : tie.Need-returns Inv-loop μ-loop
 returns c = c .before .before .before .loop .inv
@@ -43,20 +43,21 @@ loop-again c = c .before .before .before .before .before .before .before .loop .
 
 revise-requires : tie.Need-revise-requires Inv-loop μ-loop
 revise-requires c κs =
-    (c .before .before .before .before .before .before .before .before .before .pre .0, c .before .if2 .left, c .before .before .before .before .before .before .before .before .loop .inv .fewer .sized)
+    let s = c .before .before .before .before .before .before .before .before .before in
+    (s .pre .0 .given, s .pre .0 .crowds, c .before .if2 .left, c .before .before .before .before .before .before .before .before .loop .inv .fewer .sized)
 
 returns-2 : tie.Need-returns-2 Inv-loop μ-loop
 returns-2 c =
     let a = c .before .before .before .before .before .before .before .before .before .before .before .args in
     let l = c .before .before .before .before .before .before .before .before .before .before .loop in
     narrowed-lost
-    (jobIn (a .size .steps) (a .size .people) (a .size .levels) (a .mates .now) (a .size .rules) (a .kind .now) (a .level .now) (a .limit .now) (a .scope .now))
+    (jobIn (a .size) (a .class .now) (a .rule .now))
     (a .dom .now) (l .dom) _
     (c .before .before .before .before .before .before .lowest .result) (c .before .before .before .if2 .left) _ (l .inv) (c .before .revise .ensures .0)
     (c .if3 .taken)
 
 touched-requires : tie.Need-touched-requires Inv-loop μ-loop
-touched-requires c κs = (c .before .before .before .before .before .before .before .before .before .before .before .pre .1, c .before .revise .ensures .1)
+touched-requires c κs = (c .before .before .before .before .before .before .before .before .before .before .before .pre .0 .naming .sized, c .before .revise .ensures .1)
 
 without-requires-2 : tie.Need-without-requires-2 Inv-loop μ-loop
 without-requires-2 c κs = search needs
@@ -69,7 +70,7 @@ loop-again-2 c =
     let a = c .before .before .before .before .before .before .before .before .before .before .before .before .before .args in
     let l = c .before .before .before .before .before .before .before .before .before .before .before .before .loop in
     narrowed-more
-    (jobIn (a .size .steps) (a .size .people) (a .size .levels) (a .mates .now) (a .size .rules) (a .kind .now) (a .level .now) (a .limit .now) (a .scope .now))
+    (jobIn (a .size) (a .class .now) (a .rule .now))
     (a .dom .now) (l .dom) _
     (c .before .before .before .before .before .before .before .before .lowest .result) (c .before .before .before .before .before .if2 .left) _ (l .inv)
     (c .before .before .before .revise .ensures .0) (c .before .before .if3 .left)

@@ -1,6 +1,6 @@
 -- `narrow::propagate::touched` keeps to its arrays, and the steps left fall. Assumes nothing.
 use Prim.Native.Nat.{_<_}
-use Rattle.narrow.proofs.Masks.{lowest-less, lowest-below}
+use Rattle.bits.proofs.Masks.{lowest-less, lowest-below}
 use native.Mathlib.Omega.{arith}
 use borrow.Author.Needs.{needs}
 use Rattle.narrow.proofs.propagate.touched.Statement.{statement}

@@ -1,7 +1,7 @@
 -- `narrow::revise::left_to` meets its contract. Assumes nothing.
 use mathlib.Core.Bool.{not}
 use mathlib.Core.Path.{ap, _∙_}
-use Rattle.narrow.proofs.Masks.{xor-all, all-has}
+use Rattle.bits.proofs.Masks.{xor-all, all-has}
 use native.Mathlib.Omega.{arith}
 use borrow.Author.Needs.{needs}
 use Rattle.narrow.proofs.revise.left_to.Statement.{statement}

@@ -1,6 +1,6 @@
 -- `narrow::revise::restrict` meets its contract: the steps passed have only such people, and the steps left fall. Assumes nothing.
 use Rattle.narrow.specs.Narrowing.{Restricting}
-use Rattle.narrow.proofs.Masks.{lowest-less}
+use Rattle.bits.proofs.Masks.{lowest-less}
 use Rattle.narrow.proofs.Restricting.{restricting-none, turn-below, restricting-skip, restricting-take, restricted-fails, restricted-all}
 use Prim.Native.Nat.{_<_}
 use native.Mathlib.Omega.{arith}

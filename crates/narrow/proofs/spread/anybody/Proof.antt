@@ -1,7 +1,7 @@
 -- `narrow::spread::anybody` meets its contract: the people of the steps passed are found, and the steps left fall. Assumes nothing.
 use Prim.Native.Nat.{_<_}
 use Rattle.bits.proofs.SetLaws.{has-below}
-use Rattle.narrow.proofs.Masks.{lowest-less}
+use Rattle.bits.proofs.Masks.{lowest-less}
 use Rattle.narrow.proofs.Spreading.{Joining, anybody-none, anybody-more, anybody-all}
 use native.Mathlib.Omega.{arith}
 use borrow.Author.Needs.{needs}

@@ -16,11 +16,11 @@ firsts-requires c κs = search needs
 
 -- what is found
 found : (c : tie.After-firsts) → let a = c .before .before .args in
-    Spread (a .people) (classIn (a .mates .now) (a .level)) (a .steps) (a .used) (a .dom .now) (ones (c .firsts .result))
+    Spread (a .people) (classIn (a .class .now) (a .level)) (a .steps) (a .used) (a .dom .now) (ones (c .firsts .result))
 found c =
     let a = c .before .before .args in
-    spread-of (a .people) (classIn (a .mates .now) (a .level)) (a .steps) (a .used) (a .dom .now) (c .before .anybody .result) (c .firsts .result)
-    (c .before .before .pre .0) (c .before .anybody .ensures) (c .firsts .ensures)
+    spread-of (a .people) (classIn (a .class .now) (a .level)) (a .steps) (a .used) (a .dom .now) (c .before .anybody .result) (c .firsts .result)
+    (c .before .before .pre .0 .few-people) (c .before .anybody .ensures) (c .firsts .ensures)
 
 cast-result : tie.Need-cast-result
 cast-result c = omega (arith, spread-few (found c))

@@ -4,7 +4,7 @@ use Prim.Native.Nat.{_<_}
 use native.Mathlib.Omega.{arith}
 use borrow.Author.Needs.{needs}
 use Rattle.realize.specs.Decision.{Candidates}
-use Rattle.realize.proofs.Masks.{lowest-below, lowest-less}
+use Rattle.bits.proofs.Masks.{part-below, lowest-less}
 use Rattle.realize.proofs.Rows.{candidates-none, candidates-next, candidates-all}
 use Rattle.realize.proofs.decision.candidates.Statement.{statement}
 use Rattle.realize.proofs.decision.candidates.Tie as tie
@@ -26,7 +26,7 @@ without-requires c κs = search needs
 
 -- the step of a turn
 below : (c : tie.After-without Inv-loop μ-loop) → c .before .lowest .result < 12
-below c = lowest-below 12 (c .before .before .before .before .args .group) _ _ (c .before .before .before .before .pre .2) (c .before .before .before .loop .inv .part) (c .before .lowest .ensures .1)
+below c = let l = c .before .before .before in part-below 12 (l .before .args .group) _ _ (l .before .pre .2) (l .loop .inv .part) (c .before .lowest .ensures .1)
 
 mul-found : tie.Need-mul-found Inv-loop μ-loop
 mul-found c = omega arith

@@ -5,7 +5,7 @@ use borrow.Author.Needs.{needs}
 use Rattle.bits.specs.Word.{hasBit}
 use Rattle.pattern.specs.Tables.{mayIn}
 use Rattle.realize.specs.Decision.{Staffing}
-use Rattle.realize.proofs.Masks.{lowest-below, lowest-less}
+use Rattle.bits.proofs.Masks.{part-below, lowest-less}
 use Rattle.realize.proofs.Staff.{staffing-none, staffing-next, staffing-fails, staffing-all}
 use Rattle.realize.proofs.decision.staffed.Statement.{statement}
 use Rattle.realize.proofs.decision.staffed.Tie as tie
@@ -29,16 +29,24 @@ mul-if1 : tie.Need-mul-if1 Inv-loop μ-loop
 mul-if1 c = omega arith
 
 element-copy-out-if1 : tie.Need-element-copy-out-if1 Inv-loop μ-loop
-element-copy-out-if1 c = lowest-below 12 (c .before .before .before .before .args .steps) _ _ (c .before .before .before .before .pre .1) (c .before .before .before .loop .inv .part) (c .before .lowest .ensures .1)
+element-copy-out-if1 c = let l = c .before .before .before in part-below 12 (l .before .args .steps) _ _ (l .before .pre .1) (l .loop .inv .part) (c .before .lowest .ensures .1)
 
 returns : tie.Need-returns Inv-loop μ-loop
-returns c = staffing-fails (c .before .before .before .before .before .before .args .may .now) (c .before .before .before .before .before .before .args .people) (c .before .before .before .lowest .result) (c .before .before .before .before .before .loop .inv) (c .before .before .before .lowest .ensures .1 .has) (c .if1 .taken)
+returns c =
+    let g = c .before .before .before in
+    let l = g .before .before in
+    let a = l .before .args in
+    staffing-fails (a .may .now) (a .people) (g .lowest .result) (l .loop .inv) (g .lowest .ensures .1 .has) (c .if1 .taken)
 
 loop-less : tie.Need-loop-less Inv-loop μ-loop
 loop-less c = lowest-less (c .before .before .before .lowest .ensures .1) (c .before .before .without .ensures)
 
 loop-again : tie.Need-loop-again Inv-loop μ-loop
-loop-again c = staffing-next (c .before .before .before .before .before .before .args .may .now) (c .before .before .before .before .before .before .args .people) (c .before .before .before .lowest .result) (c .before .before .before .before .before .before .fits .people .fits) (c .before .before .before .before .before .loop .inv) (c .before .before .without .ensures) (c .if1 .left)
+loop-again c =
+    let g = c .before .before .before in
+    let l = g .before .before in
+    let s = l .before in
+    staffing-next (s .args .may .now) (s .args .people) (g .lowest .result) (s .fits .people .fits) (l .loop .inv) (c .before .before .without .ensures) (c .if1 .left)
 
 returns-2 : tie.Need-returns-2 Inv-loop μ-loop
 returns-2 c = staffing-all (c .before .loop .inv) (c .loop-test .left)

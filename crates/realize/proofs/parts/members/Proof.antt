@@ -6,8 +6,9 @@ use borrow.Author.Needs.{needs}
 use borrow.Author.Tests.{eq-eqb, ne-eqb}
 use lib.Dec.{eqb}
 use lib.ListN.{getD}
-use Rattle.realize.specs.Masks.{Sifted}
-use Rattle.realize.proofs.Masks.{lowest-below, lowest-less, sifted-none, sifted-skip, sifted-take, label-sifted}
+use Rattle.bits.specs.Set.{Sifted}
+use Rattle.bits.proofs.Masks.{part-below, lowest-less, sifted-none, sifted-skip, sifted-take}
+use Rattle.realize.proofs.Masks.{label-sifted}
 use Rattle.realize.proofs.parts.members.Statement.{statement}
 use Rattle.realize.proofs.parts.members.Tie as tie
 
@@ -33,13 +34,17 @@ add-if1 : tie.Need-add-if1 Inv-loop μ-loop
 add-if1 c = omega arith
 
 element-copy-out-if1 : tie.Need-element-copy-out-if1 Inv-loop μ-loop
-element-copy-out-if1 c = omega (arith, lowest-below 12 (c .before .before .before .before .args .steps) _ _ (c .before .before .before .before .pre .2) (c .before .before .before .loop .inv .part) (c .before .lowest .ensures .1))
+element-copy-out-if1 c =
+    let l = c .before .before .before in
+    omega (arith, part-below 12 (l .before .args .steps) _ _ (l .before .pre .2) (l .loop .inv .part) (c .before .lowest .ensures .1))
 
 loop-less : tie.Need-loop-less Inv-loop μ-loop
 loop-less c = lowest-less (c .before .before .before .lowest .ensures .1) (c .before .before .without .ensures)
 
 loop-again : tie.Need-loop-again Inv-loop μ-loop
-loop-again c = sifted-skip (c .before .before .before .before .before .loop .inv) (c .before .before .without .ensures) (c .before .before .before .lowest .ensures .1 .has) (ne-eqb _ _ (c .if1 .taken))
+loop-again c =
+    let g = c .before .before .before in
+    sifted-skip (g .before .before .loop .inv) (c .before .before .without .ensures) (g .lowest .ensures .1 .has) (ne-eqb _ _ (c .if1 .taken))
 
 with-requires : tie.Need-with-requires Inv-loop μ-loop
 with-requires c κs = search needs
@@ -48,7 +53,9 @@ loop-less-2 : tie.Need-loop-less-2 Inv-loop μ-loop
 loop-less-2 c = lowest-less (c .before .before .before .before .lowest .ensures .1) (c .before .before .before .without .ensures)
 
 loop-again-2 : tie.Need-loop-again-2 Inv-loop μ-loop
-loop-again-2 c = sifted-take (c .before .before .before .before .before .before .loop .inv) (c .before .before .before .without .ensures) (c .before .before .before .before .lowest .ensures .1 .has) (eq-eqb _ _ (c .before .if1 .left)) (c .with .ensures)
+loop-again-2 c =
+    let r = c .before .before .before in
+    sifted-take (r .before .before .before .loop .inv) (r .without .ensures) (r .before .lowest .ensures .1 .has) (eq-eqb _ _ (c .before .if1 .left)) (c .with .ensures)
 
 returns : tie.Need-returns Inv-loop μ-loop
 returns c = label-sifted (c .before .before .args .label .now) (c .before .before .args .q) (c .before .before .args .g) (c .before .loop .inv) (c .loop-test .left)

@@ -5,7 +5,7 @@ use borrow.Author.Needs.{needs}
 use Rattle.bits.specs.Word.{hasBit}
 use Rattle.pattern.specs.Tables.{mayIn}
 use Rattle.realize.specs.Filling.{StaffedBy}
-use Rattle.realize.proofs.Masks.{lowest-below, lowest-less}
+use Rattle.bits.proofs.Masks.{part-below, lowest-less}
 use Rattle.realize.proofs.Staff.{staffed-none, staffed-skip, staffed-take, staffed-all}
 use Rattle.realize.proofs.plan.staff.Statement.{statement}
 use Rattle.realize.proofs.plan.staff.Tie as tie
@@ -29,13 +29,17 @@ mul-able : tie.Need-mul-able Inv-loop μ-loop
 mul-able c = omega arith
 
 element-copy-out-able : tie.Need-element-copy-out-able Inv-loop μ-loop
-element-copy-out-able c = lowest-below 12 (c .before .before .before .before .args .steps) _ _ (c .before .before .before .before .pre .1) (c .before .before .before .loop .inv .part) (c .before .lowest .ensures .1)
+element-copy-out-able c = let l = c .before .before .before in part-below 12 (l .before .args .steps) _ _ (l .before .pre .1) (l .loop .inv .part) (c .before .lowest .ensures .1)
 
 loop-less : tie.Need-loop-less Inv-loop μ-loop
 loop-less c = lowest-less (c .before .before .before .lowest .ensures .1) (c .before .before .without .ensures)
 
 loop-again : tie.Need-loop-again Inv-loop μ-loop
-loop-again c = staffed-skip (c .before .before .before .before .before .before .args .may .now) (c .before .before .before .before .before .before .args .people) (c .before .before .before .before .before .loop .inv) (c .before .before .without .ensures) (c .before .before .before .lowest .ensures .1 .has) (c .if1 .taken)
+loop-again c =
+    let g = c .before .before .before in
+    let l = g .before .before in
+    let a = l .before .args in
+    staffed-skip (a .may .now) (a .people) (l .loop .inv) (c .before .before .without .ensures) (g .lowest .ensures .1 .has) (c .if1 .taken)
 
 lowest-requires-2 : tie.Need-lowest-requires-2 Inv-loop μ-loop
 lowest-requires-2 c κs = search needs
@@ -44,13 +48,21 @@ cast-plan : tie.Need-cast-plan Inv-loop μ-loop
 cast-plan c = omega arith
 
 element-write-plan : tie.Need-element-write-plan Inv-loop μ-loop
-element-write-plan c = lowest-below 12 (c .before .before .before .before .before .before .before .args .steps) _ _ (c .before .before .before .before .before .before .before .pre .1) (c .before .before .before .before .before .before .loop .inv .part) (c .before .before .before .before .lowest .ensures .1)
+element-write-plan c =
+    let g = c .before .before .before .before in
+    let l = g .before .before in
+    part-below 12 (l .before .args .steps) _ _ (l .before .pre .1) (l .loop .inv .part) (g .lowest .ensures .1)
 
 loop-less-2 : tie.Need-loop-less-2 Inv-loop μ-loop
 loop-less-2 c = lowest-less (c .before .before .before .before .lowest .ensures .1) (c .before .before .before .without .ensures)
 
 loop-again-2 : tie.Need-loop-again-2 Inv-loop μ-loop
-loop-again-2 c = staffed-take (c .before .before .before .before .before .before .before .args .may .now) (c .before .before .before .before .before .before .before .args .people) (c .before .before .before .before .before .before .loop .inv) (c .before .before .before .without .ensures) (c .before .before .before .before .lowest .ensures .1 .has) (c .lowest2 .result) (omega (arith, lowest-below 12 (c .before .before .before .before .before .before .before .args .steps) _ _ (c .before .before .before .before .before .before .before .pre .1) (c .before .before .before .before .before .before .loop .inv .part) (c .before .before .before .before .lowest .ensures .1), c .before .before .before .before .before .before .loop .inv .kept .sized, c .before .before .before .before .before .before .before .pre .2)) (c .lowest2 .ensures .1)
+loop-again-2 c =
+    let r = c .before .before .before in
+    let l = r .before .before .before in
+    let a = l .before .args in
+    staffed-take (a .may .now) (a .people) (l .loop .inv) (r .without .ensures) (r .before .lowest .ensures .1 .has) (c .lowest2 .result)
+    (omega (arith, element-write-plan c, l .loop .inv .kept .sized, l .before .pre .2)) (c .lowest2 .ensures .1)
 
 returns : tie.Need-returns Inv-loop μ-loop
 returns c = staffed-all (c .before .loop .inv) (c .loop-test .left)

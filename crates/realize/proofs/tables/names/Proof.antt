@@ -3,7 +3,7 @@
 use native.Mathlib.Omega.{arith}
 use borrow.Author.Needs.{needs}
 use Rattle.realize.specs.Parts.{Names}
-use Rattle.realize.proofs.Masks.{lowest-less}
+use Rattle.bits.proofs.Masks.{lowest-less}
 use Rattle.realize.proofs.Reach.{names-none, names-next, names-all}
 use Rattle.realize.proofs.tables.names.Statement.{statement}
 use Rattle.realize.proofs.tables.names.Tie as tie
@@ -42,7 +42,9 @@ loop-less : tie.Need-loop-less Inv-loop μ-loop
 loop-less c = lowest-less (c .before .before .before .lowest .ensures .1) (c .before .before .without .ensures)
 
 loop-again : tie.Need-loop-again Inv-loop μ-loop
-loop-again c = names-next (c .before .before .before .before .before .loop .inv) (c .before .before .before .lowest .ensures .1) (c .before .before .without .ensures) (c .with .ensures)
+loop-again c =
+    let g = c .before .before .before in
+    names-next (g .before .before .loop .inv) (g .lowest .ensures .1) (c .before .before .without .ensures) (c .with .ensures)
 
 returns : tie.Need-returns Inv-loop μ-loop
 returns c = names-all (c .before .loop .inv) (c .loop-test .left)

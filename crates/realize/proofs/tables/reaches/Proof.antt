@@ -13,8 +13,8 @@ Inv-loop people levels class may all reach₀ x₀ x-end reach x = (x ≤ x-end)
 abbrev μ-loop : tie.MeasureT-loop
 μ-loop people levels class may all reach₀ x₀ x-end reach x = x-end - x
 
-everybody-requires : tie.Need-everybody-requires Inv-loop μ-loop
-everybody-requires c κs = search needs
+below-requires : tie.Need-below-requires Inv-loop μ-loop
+below-requires c κs = search needs
 
 mul-x-end : tie.Need-mul-x-end Inv-loop μ-loop
 mul-x-end c = omega arith
@@ -29,7 +29,7 @@ element-copy-out-names : tie.Need-element-copy-out-names Inv-loop μ-loop
 element-copy-out-names c = omega arith
 
 names-requires : tie.Need-names-requires Inv-loop μ-loop
-names-requires c κs = (c .before .before .before .before .pre .2, omega (arith, c .before .before .before .before .pre .1))
+names-requires c κs = let p = c .before .before .before .before .pre in (p .2, omega (arith, p .1))
 
 mul-reach : tie.Need-mul-reach Inv-loop μ-loop
 mul-reach c = omega arith
@@ -45,9 +45,13 @@ loop-less c = omega arith
 
 loop-again : tie.Need-loop-again Inv-loop μ-loop
 loop-again c =
-    let a = c .before .before .before .before .before .args in
     let l = c .before .before .before .loop in
-    (omega arith, reachable-next (a .people) (a .class .now) (a .may .now) (l .x) (c .names .result) (c .before .before .before .before .everybody .result) (l .reach) (omega (arith, c .before .before .loop-test .taken, c .before .before .before .before .before .pre .1)) (c .before .before .before .before .everybody .ensures) (l .inv .1) (c .names .ensures))
+    let b = c .before .before .before .before in
+    let a = b .before .args in (
+      omega arith,
+      reachable-next (a .people) (a .class .now) (a .may .now) (l .x) (c .names .result) (b .below .result) (l .reach)
+          (array-write-reach c) (b .below .ensures) (l .inv .1) (c .names .ensures),
+    )
 
 returns : tie.Need-returns Inv-loop μ-loop
 returns c =
@@ -61,7 +65,7 @@ reaches-spec =
     (tie.spec
     Inv-loop
     μ-loop
-    everybody-requires
+    below-requires
     mul-x-end
     loop-holds
     mul-names

@@ -1,10 +1,19 @@
--- `resiliency::varied::varied` meets its contract. Assumes nothing.
+-- A plan among the others is one among all; where none is found at once, the search goes on with everyone. Assumes nothing.
 use mathlib.Core.Path.{subst}
+use borrow.Author.Needs.{needs}
 use Rattle.backtrack.specs.Trial.{Trial}
 use Rattle.resiliency.proofs.Varying.{existence-apart}
-use borrow.Author.Needs.{needs}
 use Rattle.resiliency.proofs.varied.varied.Statement.{statement}
 use Rattle.resiliency.proofs.varied.varied.Tie as tie
+
+people-at-requires : tie.Need-people-at-requires
+people-at-requires c κs = search needs
+
+people-at-requires-2 : tie.Need-people-at-requires-2
+people-at-requires-2 c κs = search needs
+
+people-at-requires-3 : tie.Need-people-at-requires-3
+people-at-requires-3 c κs = search needs
 
 exists-requires : tie.Need-exists-requires
 exists-requires c κs = search needs
@@ -28,12 +37,20 @@ returns-2 : tie.Need-returns-2
 returns-2 c = search needs
 
 returns-3 : tie.Need-returns-3
-returns-3 c = (existence-apart _ _ _ _ _ _ 12 (c .before .before .before .before .before .before .before .pre .0 .few-steps) (c .before .before .attempt .ensures .1) (c .before .before .before .before .before .apart .ensures) (subst (Trial _ _ _ _) (c .enum-told .given .1) (c .before .before .attempt .ensures .0)), c .before .before .before .before .before .before .before .pre .2)
+returns-3 c =
+    let s = c .before .before .before .before .before .before .before .before .before .before in
+    let t = c .before .before .attempt in (
+      existence-apart _ _ _ _ _ _ 12 (s .pre .0 .given .ruled .few-steps) (t .ensures .1) (c .before .before .before .before .before .apart .ensures) (subst (Trial _ _ _ _) (c .enum-told .given .1) (t .ensures .0)),
+      s .pre .3,
+    )
 
 pub varied-spec : {M : Type 1} → statement M
 varied-spec =
     tie.close
     (tie.spec
+    people-at-requires
+    people-at-requires-2
+    people-at-requires-3
     exists-requires
     returns
     apart-requires

@@ -5,33 +5,32 @@ use Prim.Native.Nat.{ℕ, _+_, _*_, _-_, _≤_, _<_}
 use native.Mathlib.Omega.{arith}
 use lib.ListN.{length}
 use borrow.Author.Tests.{not-true, not-false}
-use Rattle.bits.proofs.SetLaws.{removed-less}
-use Rattle.pattern.specs.Tables.{mayIn, jobIn}
-use Rattle.search.specs.State.{Tried}
-use Rattle.narrow.proofs.Masks.{bits-below}
-use Rattle.search.proofs.LowerLimits.{bounded}
-use Rattle.search.proofs.Turn.{named-touched, outcome-end, tried-none, reached-next, outcome-won, turn-growable, tried-lost, tried-failed, outcome-lost}
 use borrow.Fn.Kinds.{In}
 use borrow.Fn.PlainCycle.{Measures, is, falls, and}
+use Rattle.bits.proofs.SetLaws.{removed-less}
+use Rattle.bits.proofs.Masks.{bits-below}
+use Rattle.pattern.specs.Tables.{mayIn, jobIn}
+use Rattle.search.specs.State.{Tried}
+use Rattle.search.proofs.Turn.{named-touched, outcome-end, tried-none, reached-next, outcome-won, turn-growable, tried-lost, tried-failed, outcome-lost}
 use Rattle.search.proofs.find.find.Reads as find
 use Rattle.search.proofs.find.find.Kinds as find-kinds
 use Rattle.search.proofs.find.+find.Lts-find as find-lts
 use Rattle.bits.proofs.small.with.Reads as with-reads
 use Rattle.bits.proofs.small.without.Reads as without-reads
-use Rattle.search.proofs.choose.blame.Reads as blame-reads
+use Rattle.search.proofs.weights.blame.Reads as blame-reads
 use Rattle.search.proofs.choose.next_step.Reads as next-step-reads
 use Rattle.search.proofs.grow.grow.Reads as grow-reads
 use Rattle.search.proofs.find.+find.{statement}
 use Rattle.search.proofs.find.+find.Tie.{close}
 
-abbrev μ-find : Measures 11 find-kinds.ps ℕ
-μ-find κs a = a .1 .1 .1 .1 .1 .1 .1 .1 .1 .1 .1 .0
+abbrev μ-find : Measures 8 find-kinds.ps ℕ
+μ-find κs a = a .1 .1 .1 .1 .1 .1 .1 .0 .rest
 
-abbrev find-at : ℕ → In 11 find-kinds.ps
-find-at t = and 11 find-kinds.ps (is 11 find-kinds.ps μ-find t) find.Pre
+abbrev find-at : ℕ → In 8 find-kinds.ps
+find-at t = and 8 find-kinds.ps (is 8 find-kinds.ps μ-find t) find.Pre
 
-abbrev find-below : ℕ → In 11 find-kinds.ps
-find-below t = and 11 find-kinds.ps (falls 11 find-kinds.ps _<_ μ-find t) find.Pre
+abbrev find-below : ℕ → In 8 find-kinds.ps
+find-below t = and 8 find-kinds.ps (falls 8 find-kinds.ps _<_ μ-find t) find.Pre
 
 abbrev claims : ℕ → find-lts.Claims
 claims t = (
@@ -50,27 +49,27 @@ claims t = (
 )
 
 abbrev find-Inv-loop : find-lts.InvT-loop
-find-Inv-loop size class kind level limit scope may crowd reach of placed rest label₀ weight₀ s next left among ways w₀ label weight w =
+find-Inv-loop size class crowd rule of may reach front label₀ weight₀ s next among ways w₀ label weight w =
     (w ≤ size .levels * 12 + 1)
     × (length weight ≡ 12)
-    × Tried (jobIn (size .steps) (size .people) (size .levels) class (size .rules) kind level limit scope) (mayIn may) placed s w label₀ label
+    × Tried (jobIn size class rule) (mayIn may) (front .placed) s w label₀ label
 
 abbrev find-μ-loop : find-lts.MeasureT-loop
-find-μ-loop size class kind level limit scope may crowd reach of placed rest label₀ weight₀ s next left among ways w₀ label weight w =
-    size .levels * 12 + 1 - w
+find-μ-loop size class crowd rule of may reach front label₀ weight₀ s next among ways w₀ label weight w = size .levels * 12 + 1 - w
 
 find-returns : (t : ℕ) → find-lts.Need-returns (claims t) (find-at t) find.Post find-Inv-loop find-μ-loop
-find-returns t c = (outcome-end (c .before .pre .1 .3) (c .if1 .taken), c .before .pre .1 .2)
+find-returns t c =
+    let p = c .before .before .pre .1 in
+    (outcome-end (p .3) (c .if1 .taken), p .2)
 
 find-next-step-requires : (t : ℕ) → find-lts.Need-next-step-requires (claims t) (find-at t) find.Post find-Inv-loop find-μ-loop
 find-next-step-requires t c κs =
-    let p = c .before .before .before .pre .1 in (
-      bounded (p .0),
-      p .0 .few-levels,
-      bits-below 12 _ (λ s h. let l = p .3 .patterned .inside s h in omega (arith, p .0 .few-steps)),
-      bits-below 12 _ (λ s h. let l = p .3 .below s h in omega (arith, p .0 .few-steps)),
+    let p = c .before .before .before .before .pre .1 in (
+      p .0 .given .ruled,
+      bits-below 12 _ (λ s h. let l = p .3 .patterned .inside s h in omega (arith, p .0 .given .ruled .few-steps)),
+      bits-below 12 _ (λ s h. let l = p .3 .below s h in omega (arith, p .0 .given .ruled .few-steps)),
       c .before .before .if1 .left,
-      p .4 .reaches .sized,
+      p .4 .sized,
       p .3 .patterned .sized,
       p .2,
     )
@@ -78,9 +77,9 @@ find-next-step-requires t c κs =
 -- the step chosen is one of the job
 below : (t : ℕ) (c : find-lts.After-next-step (claims t) (find-at t) find.Post find-Inv-loop find-μ-loop) → c .next-step .result < 12
 below t c =
-    let p = c .before .before .before .before .pre .1 in
+    let p = c .before .before .before .before .before .pre .1 in
     let l = p .3 .below (c .next-step .result) (c .next-step .ensures) in
-    omega (arith, p .0 .few-steps)
+    omega (arith, p .0 .given .ruled .few-steps)
 
 find-with-requires : (t : ℕ) → find-lts.Need-with-requires (claims t) (find-at t) find.Post find-Inv-loop find-μ-loop
 find-with-requires t c κs = omega (arith, below t c)
@@ -92,33 +91,35 @@ find-mul-among : (t : ℕ) → find-lts.Need-mul-among (claims t) (find-at t) fi
 find-mul-among t c = omega (arith, below t (c .before .before))
 
 find-element-copy-out-among : (t : ℕ) → find-lts.Need-element-copy-out-among (claims t) (find-at t) find.Post find-Inv-loop find-μ-loop
-find-element-copy-out-among t c = omega (arith, below t (c .before .before), c .before .before .before .before .before .before .pre .1 .5 .sized)
+find-element-copy-out-among t c = omega (arith, below t (c .before .before), c .before .before .before .before .before .before .before .pre .1 .0 .naming .sized)
 
 find-mul-ways : (t : ℕ) → find-lts.Need-mul-ways (claims t) (find-at t) find.Post find-Inv-loop find-μ-loop
-find-mul-ways t c = omega (arith, c .before .before .before .before .before .before .before .before .pre .1 .0 .few-levels)
+find-mul-ways t c = omega (arith, c .before .before .before .before .before .before .before .before .before .pre .1 .0 .given .ruled .few-levels)
 
 find-add-ways : (t : ℕ) → find-lts.Need-add-ways (claims t) (find-at t) find.Post find-Inv-loop find-μ-loop
-find-add-ways t c = omega (arith, c .before .before .before .before .before .before .before .before .pre .1 .0 .few-levels)
+find-add-ways t c = omega (arith, c .before .before .before .before .before .before .before .before .before .pre .1 .0 .given .ruled .few-levels)
 
 find-loop-holds : (t : ℕ) → find-lts.Need-loop-holds (claims t) (find-at t) find.Post find-Inv-loop find-μ-loop
-find-loop-holds t c = (omega arith, c .before .before .before .before .before .before .before .before .pre .1 .2, tried-none (c .before .before .before .before .before .before .before .before .pre .1 .3) (c .before .before .before .before .next-step .ensures) (c .before .before .before .with .ensures) (c .before .before .without .ensures))
+find-loop-holds t c =
+    let p = c .before .before .before .before .before .before .before .before .before .pre .1 in
+    (omega arith, p .2, tried-none (p .3) (c .before .before .before .before .next-step .ensures) (c .before .before .before .with .ensures) (c .before .before .without .ensures))
 
 find-grow-requires : (t : ℕ) → find-lts.Need-grow-requires (claims t) (find-at t) find.Post find-Inv-loop find-μ-loop
 find-grow-requires t c κs =
     let l = c .before .before in
-    let r = l .before .before .before .before .before .before .before .before .before .pre .1 in
+    let r = l .before .before .before .before .before .before .before .before .before .before .pre .1 in
     let ch = l .before .before .before .before .before .next-step .ensures in
     let ad = l .before .before .before .before .with .ensures in
     let go = l .before .before .before .without .ensures in (
-      r .0,
+      r .0 .given,
       r .1,
-      turn-growable (r .3) ch ad go (l .loop .inv .2) (omega (arith, c .before .loop-test .taken)) (r .0 .searchable .rule-ok),
-      r .4,
-      named-touched (r .0) (r .5) (below t (l .before .before .before .before .before)),
+      turn-growable (r .3) ch ad go (l .loop .inv .2) (omega (arith, c .before .loop-test .taken)) (r .0 .given .ruled .rule-ok),
+      record { crowds = r .0 .crowds; reaches = r .4 },
+      named-touched (r .0 .given) (r .0 .naming) (below t (l .before .before .before .before .before)),
     )
 
 find-add-w : (t : ℕ) → find-lts.Need-add-w (claims t) (find-at t) find.Post find-Inv-loop find-μ-loop
-find-add-w t c = omega (arith, c .before .before .before .loop-test .taken, c .before .before .before .before .before .before .before .before .before .before .before .before .before .pre .1 .0 .few-levels)
+find-add-w t c = omega (arith, c .before .before .before .loop-test .taken, c .before .before .before .before .before .before .before .before .before .before .before .before .before .before .pre .1 .0 .given .ruled .few-levels)
 
 find-loop-less : (t : ℕ) → find-lts.Need-loop-less (claims t) (find-at t) find.Post find-Inv-loop find-μ-loop
 find-loop-less t c = omega (arith, c .before .before .before .loop-test .taken)
@@ -126,7 +127,7 @@ find-loop-less t c = omega (arith, c .before .before .before .loop-test .taken)
 find-loop-again : (t : ℕ) → find-lts.Need-loop-again (claims t) (find-at t) find.Post find-Inv-loop find-μ-loop
 find-loop-again t c =
     let l = c .before .before .before .before in
-    let r = l .before .before .before .before .before .before .before .before .before .pre .1 in
+    let r = l .before .before .before .before .before .before .before .before .before .before .pre .1 in
     let ch = l .before .before .before .before .before .next-step .ensures in
     let ad = l .before .before .before .before .with .ensures in
     let go = l .before .before .before .without .ensures in (
@@ -138,26 +139,27 @@ find-loop-again t c =
 
 find-find-requires : (t : ℕ) → find-lts.Need-find-requires (claims t) (find-at t) find.Post find-Inv-loop find-μ-loop
 find-find-requires t c κs =
-    let l = c .before .before .before .before .before .before in
-    let r = l .before .before .before .before .before .before .before .before .before .pre .1 in
+    let g = c .before .before .before in
+    let l = g .before .before .before in
+    let r = l .before .before .before .before .before .before .before .before .before .before .pre .1 in
     let ch = l .before .before .before .before .before .next-step .ensures in
     let ad = l .before .before .before .before .with .ensures in
     let go = l .before .before .before .without .ensures in (
-      subst (λ (n : ℕ). l .before .before .before .without .result < n) (l .before .before .before .before .before .before .before .before .before .pre .0) (removed-less ch go),
-      (r .0, r .1, l .loop .inv .1, reached-next (r .3) ch ad go (c .before .before .before .grow .ensures) (not-false (c .before .before .before .grow .result) (c .before .before .if2 .left)), r .4, r .5),
+      subst (λ (n : ℕ). l .before .before .before .without .result < n) (l .before .before .before .before .before .before .before .before .before .before .pre .0) (removed-less ch go),
+      (r .0, r .1, l .loop .inv .1, reached-next (r .3) ch ad go (g .grow .ensures) (not-false (g .grow .result) (c .before .before .if2 .left)), r .4),
     )
 
 find-returns-2 : (t : ℕ) → find-lts.Need-returns-2 (claims t) (find-at t) find.Post find-Inv-loop find-μ-loop
 find-returns-2 t c =
     let l = c .before .before .before .before .before .before .before .before in
-    let r = l .before .before .before .before .before .before .before .before .before .pre .1 in
+    let r = l .before .before .before .before .before .before .before .before .before .before .pre .1 in
     let ch = l .before .before .before .before .before .next-step .ensures in
     let ad = l .before .before .before .before .with .ensures in
     let go = l .before .before .before .without .ensures in
     (outcome-won (r .3) ch ad go (c .before .find .ensures .0) (c .if3 .taken), c .before .find .ensures .1)
 
 find-add-w-2 : (t : ℕ) → find-lts.Need-add-w-2 (claims t) (find-at t) find.Post find-Inv-loop find-μ-loop
-find-add-w-2 t c = omega (arith, c .before .before .before .before .before .before .before .loop-test .taken, c .before .before .before .before .before .before .before .before .before .before .before .before .before .before .before .before .before .pre .1 .0 .few-levels)
+find-add-w-2 t c = omega (arith, c .before .before .before .before .before .before .before .loop-test .taken, c .before .before .before .before .before .before .before .before .before .before .before .before .before .before .before .before .before .before .pre .1 .0 .given .ruled .few-levels)
 
 find-loop-less-2 : (t : ℕ) → find-lts.Need-loop-less-2 (claims t) (find-at t) find.Post find-Inv-loop find-μ-loop
 find-loop-less-2 t c = omega (arith, c .before .before .before .before .before .before .before .loop-test .taken)
@@ -165,15 +167,15 @@ find-loop-less-2 t c = omega (arith, c .before .before .before .before .before .
 find-loop-again-2 : (t : ℕ) → find-lts.Need-loop-again-2 (claims t) (find-at t) find.Post find-Inv-loop find-μ-loop
 find-loop-again-2 t c =
     let l = c .before .before .before .before .before .before .before .before in
-    let r = l .before .before .before .before .before .before .before .before .before .pre .1 in
+    let g = c .before .before .before .before .before in
+    let r = l .before .before .before .before .before .before .before .before .before .before .pre .1 in
     let ch = l .before .before .before .before .before .next-step .ensures in
     let ad = l .before .before .before .before .with .ensures in
     let go = l .before .before .before .without .ensures in (
       omega (arith, c .before .before .before .before .before .before .before .loop-test .taken),
       c .before .find .ensures .1,
       tried-failed (r .3) ch ad go (l .loop .inv .2) (omega (arith, c .before .before .before .before .before .before .before .loop-test .taken))
-          (c .before .before .before .before .before .grow .ensures) (not-false (c .before .before .before .before .before .grow .result) (c .before .before .before .before .if2 .left))
-          (c .before .find .ensures .0) (c .if3 .left),
+          (g .grow .ensures) (not-false (g .grow .result) (c .before .before .before .before .if2 .left)) (c .before .find .ensures .0) (c .if3 .left),
     )
 
 find-blame-requires : (t : ℕ) → find-lts.Need-blame-requires (claims t) (find-at t) find.Post find-Inv-loop find-μ-loop
@@ -182,11 +184,11 @@ find-blame-requires t c κs = (below t (c .before .before .before .before .befor
 find-returns-3 : (t : ℕ) → find-lts.Need-returns-3 (claims t) (find-at t) find.Post find-Inv-loop find-μ-loop
 find-returns-3 t c =
     let l = c .before .before .before in
-    let r = l .before .before .before .before .before .before .before .before .before .pre .1 in
+    let r = l .before .before .before .before .before .before .before .before .before .before .pre .1 in
     let ch = l .before .before .before .before .before .next-step .ensures in
     let ad = l .before .before .before .before .with .ensures in
     let go = l .before .before .before .without .ensures in
-    (outcome-lost (r .3) ch ad go (r .0 .searchable .refining) (r .0 .few-steps) (l .loop .inv .2) (omega (arith, c .before .before .loop-test .left)), c .blame .ensures)
+    (outcome-lost (r .3) ch ad go (r .0 .given .refining) (r .0 .given .ruled .few-steps) (l .loop .inv .2) (omega (arith, c .before .before .loop-test .left)), c .blame .ensures)
 
 pub +find-spec : {M : Type 1} → statement M
 +find-spec = close μ-find λ t. find-lts.spec (claims t)

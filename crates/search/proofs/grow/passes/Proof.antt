@@ -1,29 +1,29 @@
 -- `search::grow::passes` meets its contract: a pattern that a valid plan has passes both tests. Assumes nothing.
-use Rattle.search.proofs.Node.{ruled-among, sized, passing-ruled-out, passing-decided}
+use Rattle.search.proofs.Node.{rules-among, sized, passing-ruled-out, passing-decided}
 use Rattle.search.proofs.grow.passes.Statement.{statement}
 use Rattle.search.proofs.grow.passes.Tie as tie
 
-eligible-among-requires : tie.Need-eligible-among-requires
-eligible-among-requires c κs = ruled-among (c .pre .0) (c .args .may .now) (c .args .placed) (c .args .label .now) (c .args .among) (c .pre .2) (c .pre .4)
+eligible-requires : tie.Need-eligible-requires
+eligible-requires c κs = rules-among (c .pre .0) (c .args .may .now) (c .args .placed) (c .args .label .now) (c .args .among) (c .pre .2) (c .pre .4 .below)
 
 returns : tie.Need-returns
 returns c =
     let a = c .before .before .args in
-    passing-ruled-out (c .before .before .pre .0) (a .may .now) (a .placed) (a .label .now) (a .among) (c .before .eligible-among .result) (c .before .before .pre .4) (c .before .eligible-among .ensures) (c .if1 .taken)
+    let p = c .before .before .pre in
+    passing-ruled-out (p .0) (a .may .now) (a .placed) (a .label .now) (a .among) (c .before .eligible .result) (p .4) (c .before .eligible .ensures) (c .if1 .taken)
 
 realizable-requires : tie.Need-realizable-requires
 realizable-requires c κs =
     let a = c .before .before .args in
     let p = c .before .before .pre in
-    (sized (p .0) (a .may .now) (a .placed) (a .label .now) (p .1) (p .2) (p .3), p .0 .few-people, p .3)
+    (sized (p .0) (a .may .now) (a .placed) (a .label .now) (p .1) (p .2) (p .3), p .0 .few-people)
 
 returns-2 : tie.Need-returns-2
 returns-2 c =
     let a = c .before .before .before .args in
     let p = c .before .before .before .pre in
-    passing-decided (p .0) (a .may .now) (a .placed) (a .label .now) (a .among) (c .before .before .eligible-among .result) (c .realizable .result) (p .2) (p .4)
-    (c .before .before .eligible-among .ensures) (c .before .if1 .left)
-    (c .realizable .ensures)
+    passing-decided (p .0) (a .may .now) (a .placed) (a .label .now) (p .3) (a .among) (c .before .before .eligible .result) (c .realizable .result) (p .2) (p .4)
+    (c .before .before .eligible .ensures) (c .before .if1 .left) (c .realizable .ensures)
 
 pub passes-spec : {M : Type 1} → statement M
-passes-spec = tie.close (tie.spec eligible-among-requires returns realizable-requires returns-2)
+passes-spec = tie.close (tie.spec eligible-requires returns realizable-requires returns-2)

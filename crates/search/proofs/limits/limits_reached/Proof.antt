@@ -1,24 +1,28 @@
 -- `search::limits::limits_reached` meets its contract. The loop has nothing to remember: a limit that is not reached ends it. Assumes nothing.
+use mathlib.Core.Path.{_≡_, refl}
 use Prim.Native.Nat.{_≤_, _-_}
 use native.Mathlib.Omega.{arith}
-use lib.ListN.{getD}
-use Rattle.bits.specs.Word.{hasBit}
-use Rattle.bits.proofs.Counting.{count-le}
 use Rattle.search.proofs.LowerLimits.{limits-short, limits-passed}
 use Rattle.search.proofs.limits.limits_reached.Statement.{statement}
 use Rattle.search.proofs.limits.limits_reached.Tie as tie
 
 abbrev Inv-loop : tie.InvT-loop
-Inv-loop steps rules kind level limit scope reach i₀ i = i ≤ rules
+Inv-loop size rule reach rules i₀ i = (rules ≡ size .rules) × (i ≤ rules)
 
 abbrev μ-loop : tie.MeasureT-loop
-μ-loop steps rules kind level limit scope reach i₀ i = rules - i
+μ-loop size rule reach rules i₀ i = rules - i
 
 loop-holds : tie.Need-loop-holds Inv-loop μ-loop
-loop-holds c = omega arith
+loop-holds c = (refl, omega arith)
 
-element-copy-out-if1 : tie.Need-element-copy-out-if1 Inv-loop μ-loop
-element-copy-out-if1 c = omega (arith, c .before .before .pre .0 .few-rules, c .before .before .pre .0 .kinds)
+mul-r : tie.Need-mul-r Inv-loop μ-loop
+mul-r c = omega (arith, c .before .before .pre .0 .few-rules)
+
+element-copy-out-r : tie.Need-element-copy-out-r Inv-loop μ-loop
+element-copy-out-r c = omega (arith, c .before .before .pre .0 .few-rules)
+
+least-requires : tie.Need-least-requires Inv-loop μ-loop
+least-requires c κs = tt
 
 add-i : tie.Need-add-i Inv-loop μ-loop
 add-i c = omega arith
@@ -27,42 +31,20 @@ loop-less : tie.Need-loop-less Inv-loop μ-loop
 loop-less c = omega arith
 
 loop-again : tie.Need-loop-again Inv-loop μ-loop
-loop-again c = omega arith
+loop-again c = (refl, omega arith)
 
-element-copy-out-reaches-limit : tie.Need-element-copy-out-reaches-limit Inv-loop μ-loop
-element-copy-out-reaches-limit c = omega (arith, c .before .before .before .before .pre .0 .few-rules, c .before .before .before .before .pre .0 .levels)
-
-sub-reaches-limit : tie.Need-sub-reaches-limit Inv-loop μ-loop
-sub-reaches-limit c = c .before .before .before .before .before .pre .0 .from (c .before .before .before .before .loop .i) (c .before .before .before .loop-test .taken)
-
-cast-reaches-limit : tie.Need-cast-reaches-limit Inv-loop μ-loop
-cast-reaches-limit c = omega (arith, c .before .before .before .before .before .pre .0 .to (c .before .before .before .before .loop .i) (c .before .before .before .loop-test .taken))
-
-element-copy-out-reaches-limit-2 : tie.Need-element-copy-out-reaches-limit-2 Inv-loop μ-loop
-element-copy-out-reaches-limit-2 c = omega (arith, c .before .before .before .before .before .pre .0 .few-rules, c .before .before .before .before .before .pre .0 .limits)
-
-cast-reaches-limit-2 : tie.Need-cast-reaches-limit-2 Inv-loop μ-loop
-cast-reaches-limit-2 c =
-    let p = c .before .before .before .before .before .before .pre .0 in
-    let i = c .before .before .before .before .before .loop .i in
-    omega (arith, p .within i (c .before .before .before .before .loop-test .taken) (c .before .before .if1 .left), count-le (c .before .before .before .before .before .before .args .steps) (hasBit (getD (c .before .before .before .before .before .before .args .scope .now) i 0)), p .few-steps)
-
-mul-reaches-limit : tie.Need-mul-reaches-limit Inv-loop μ-loop
-mul-reaches-limit c = omega arith
-
-element-copy-out-reaches-limit-3 : tie.Need-element-copy-out-reaches-limit-3 Inv-loop μ-loop
-element-copy-out-reaches-limit-3 c = omega (arith, c .before .before .before .before .before .before .pre .0 .few-rules, c .before .before .before .before .before .before .pre .0 .scopes)
-
-reaches-limit-requires : tie.Need-reaches-limit-requires Inv-loop μ-loop
-reaches-limit-requires c κs =
-    let p = c .before .before .before .before .before .before .before .pre in
-    let i = c .before .before .before .before .before .before .loop .i in
-    let l = c .before .before .before .before .before .loop-test .taken in
-    (p .0 .few-steps, p .1, omega (arith, p .0 .from i l, p .0 .to i l), p .0 .within i l (c .before .before .before .if1 .left))
+reaches-least-requires : tie.Need-reaches-least-requires Inv-loop μ-loop
+reaches-least-requires c κs =
+    let l = c .before .before .before .before in
+    let p = l .before .pre in
+    let b = l .loop .i in
+    let ok = p .0 .rule-ok b (omega arith) in
+    (p .0 .few-steps, p .1, ok .from, omega (arith, ok .to, p .0 .few-levels), p .0 .scopes b (omega arith), ok .reachable)
 
 returns : tie.Need-returns Inv-loop μ-loop
 returns c =
-    limits-short (c .before .before .before .before .before .before .before .before .loop .i) (c .before .reaches-limit .result) (c .before .before .before .before .before .before .before .loop-test .taken) (c .before .before .before .before .before .if1 .left) (c .before .reaches-limit .ensures) (c .if2 .taken)
+    let l = c .before .before .before .before .before .before .loop in
+    limits-short (l .i) (c .before .reaches-least .result) (omega arith) (c .before .reaches-least .ensures) (c .if2 .taken)
 
 add-i-2 : tie.Need-add-i-2 Inv-loop μ-loop
 add-i-2 c = omega arith
@@ -71,7 +53,7 @@ loop-less-2 : tie.Need-loop-less-2 Inv-loop μ-loop
 loop-less-2 c = omega arith
 
 loop-again-2 : tie.Need-loop-again-2 Inv-loop μ-loop
-loop-again-2 c = omega arith
+loop-again-2 c = (refl, omega arith)
 
 returns-2 : tie.Need-returns-2 Inv-loop μ-loop
 returns-2 c = limits-passed
@@ -83,18 +65,13 @@ limits-reached-spec =
     Inv-loop
     μ-loop
     loop-holds
-    element-copy-out-if1
+    mul-r
+    element-copy-out-r
+    least-requires
     add-i
     loop-less
     loop-again
-    element-copy-out-reaches-limit
-    sub-reaches-limit
-    cast-reaches-limit
-    element-copy-out-reaches-limit-2
-    cast-reaches-limit-2
-    mul-reaches-limit
-    element-copy-out-reaches-limit-3
-    reaches-limit-requires
+    reaches-least-requires
     returns
     add-i-2
     loop-less-2

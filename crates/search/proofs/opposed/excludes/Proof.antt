@@ -1,98 +1,99 @@
 -- `search::opposed::excludes` meets its contract. Assumes nothing.
-use mathlib.Core.Path.{refl}
-use Prim.Native.Nat.{_-_, _<_}
+use mathlib.Core.Bool.{true, not, _&&_}
+use mathlib.Core.Path.{_≡_, refl, sym, _∙_, ap, ap₂}
+use Prim.Native.Nat.{ℕ, _+_, _<_}
 use native.Mathlib.Omega.{arith}
+use borrow.Author.Needs.{needs}
 use borrow.Author.Tests.{ltb-true}
 use Rattle.bits.proofs.Below.{true-false}
-use borrow.Author.Needs.{needs}
+use Rattle.bits.proofs.Counting.{count-le}
+use Rattle.bits.specs.Below.{count}
+use Rattle.bits.specs.Word.{hasBit}
 use Rattle.search.proofs.opposed.excludes.Statement.{statement}
 use Rattle.search.proofs.opposed.excludes.Tie as tie
 
-element-copy-out-if1 : tie.Need-element-copy-out-if1
-element-copy-out-if1 c = search needs
+mul-upper : tie.Need-mul-upper
+mul-upper c = search needs
 
-element-copy-out-if1-2 : tie.Need-element-copy-out-if1-2
-element-copy-out-if1-2 c = search needs
+element-copy-out-upper : tie.Need-element-copy-out-upper
+element-copy-out-upper c = search needs
+
+mul-lower : tie.Need-mul-lower
+mul-lower c = search needs
+
+element-copy-out-lower : tie.Need-element-copy-out-lower
+element-copy-out-lower c = search needs
+
+level-requires : tie.Need-level-requires
+level-requires c κs = search needs
+
+level-requires-2 : tie.Need-level-requires-2
+level-requires-2 c κs = search needs
 
 returns : tie.Need-returns
 returns c = λ e. true-false e refl
 
-element-copy-out-least : tie.Need-element-copy-out-least
-element-copy-out-least c = search needs
+scope-requires : tie.Need-scope-requires
+scope-requires c κs = search needs
 
-element-copy-out-least-2 : tie.Need-element-copy-out-least-2
-element-copy-out-least-2 c = search needs
-
-least-requires : tie.Need-least-requires
-least-requires c κs = search needs
-
-cast-asked : tie.Need-cast-asked
-cast-asked c = search needs
-
-mul-open-count : tie.Need-mul-open-count
-mul-open-count c = search needs
-
-element-copy-out-open-count : tie.Need-element-copy-out-open-count
-element-copy-out-open-count c = search needs
-
-mul-open-count-2 : tie.Need-mul-open-count-2
-mul-open-count-2 c = search needs
-
-element-copy-out-open-count-2 : tie.Need-element-copy-out-open-count-2
-element-copy-out-open-count-2 c = search needs
+scope-requires-2 : tie.Need-scope-requires-2
+scope-requires-2 c κs = search needs
 
 open-count-requires : tie.Need-open-count-requires
 open-count-requires c κs = search needs
 
-returns-2 : tie.Need-returns-2
-returns-2 c = λ e. true-false e refl
-
-element-copy-out-most : tie.Need-element-copy-out-most
-element-copy-out-most c = search needs
-
-element-copy-out-most-2 : tie.Need-element-copy-out-most-2
-element-copy-out-most-2 c = search needs
-
 most-requires : tie.Need-most-requires
 most-requires c κs = search needs
 
-sub-result : tie.Need-sub-result
-sub-result c = search needs
+add-result : tie.Need-add-result
+add-result c =
+    let o = c .before in
+    let a = o .before .before .before .before .before .before .before .before .args in
+    omega (
+      arith,
+      c .most .ensures .1,
+      o .open-count .ensures,
+      count-le (a .size .steps) (λ s. hasBit (o .before .before .scope .result) s && not (hasBit (o .before .scope2 .result) s)),
+      o .before .before .before .before .before .before .before .before .pre .0 .few-steps,
+    )
 
-returns-3 : tie.Need-returns-3
-returns-3 c =
-    let a = c .before .before .before .before .before .before .before .before .before .before .before .before .before .args in
-    let p = c .before .before .before .before .before .before .before .before .before .before .before .before .before .pre in
+least-requires : tie.Need-least-requires
+least-requires c κs = search needs
+
+returns-2 : tie.Need-returns-2
+returns-2 c =
+    let o = c .before .before in
+    let s = o .before .before .before .before .before .before .before .before in
+    let a = s .args in
+    let l = o .before .before .before .before in
+    let n : ℕ → ℕ → ℕ = λ x y. count (a .size .steps) (λ t. hasBit x t && not (hasBit y t)) in
     λ e.
-    let less : c .most .result < c .before .before .before .before .before .before .before .least .result - c .before .before .before .before .open-count .result = ltb-true _ _ e in
+    let less : c .before .most .result + o .open-count .result < c .least .result = ltb-true _ _ e in
+    let z = o .open-count .ensures ∙ ap₂ n (o .before .before .scope .ensures) (o .before .scope2 .ensures) in
     record {
       upper = a .i;
       lower = a .k;
-      upper-below = p .1;
-      lower-below = p .2;
-      same = c .before .before .before .before .before .before .before .before .before .before .if1 .left;
-      fewer = omega (arith, less, c .most .ensures, c .before .before .before .before .before .before .before .least .ensures, c .before .before .before .before .open-count .ensures);
+      upper-below = s .pre .1;
+      lower-below = s .pre .2;
+      same = sym (l .before .level .ensures .0) ∙ o .before .before .before .if1 .left ∙ l .level2 .ensures .0;
+      fewer = omega (arith, less, z, c .before .most .ensures .0, c .least .ensures .0);
     }
 
 pub excludes-spec : {M : Type 1} → statement M
 excludes-spec =
     tie.close
     (tie.spec
-    element-copy-out-if1
-    element-copy-out-if1-2
+    mul-upper
+    element-copy-out-upper
+    mul-lower
+    element-copy-out-lower
+    level-requires
+    level-requires-2
     returns
-    element-copy-out-least
-    element-copy-out-least-2
-    least-requires
-    cast-asked
-    mul-open-count
-    element-copy-out-open-count
-    mul-open-count-2
-    element-copy-out-open-count-2
+    scope-requires
+    scope-requires-2
     open-count-requires
-    returns-2
-    element-copy-out-most
-    element-copy-out-most-2
     most-requires
-    sub-result
-    returns-3)
+    add-result
+    least-requires
+    returns-2)

@@ -1,34 +1,34 @@
 -- `search::opposed::excludes_some` meets its contract. Assumes nothing.
-use mathlib.Core.Path.{refl}
-use Prim.Native.Nat.{_-_, _≤_}
+use mathlib.Core.Path.{_≡_, refl}
+use Prim.Native.Nat.{_≤_, _-_}
 use native.Mathlib.Omega.{arith}
 use Rattle.bits.proofs.Below.{true-false}
 use Rattle.search.proofs.opposed.excludes_some.Statement.{statement}
 use Rattle.search.proofs.opposed.excludes_some.Tie as tie
 
 abbrev Inv-loop : tie.InvT-loop
-Inv-loop steps rules kind level limit scope i k₀ k = k ≤ rules
+Inv-loop size rule i rules k₀ k = (rules ≡ size .rules) × (k ≤ rules)
 
 abbrev μ-loop : tie.MeasureT-loop
-μ-loop steps rules kind level limit scope i k₀ k = rules - k
+μ-loop size rule i rules k₀ k = rules - k
 
 loop-holds : tie.Need-loop-holds Inv-loop μ-loop
-loop-holds c = omega arith
+loop-holds c = (refl, omega arith)
 
 excludes-requires : tie.Need-excludes-requires Inv-loop μ-loop
-excludes-requires c κs = (c .before .before .pre .0, c .before .before .pre .1, c .loop-test .taken)
+excludes-requires c κs = (c .before .before .pre .0, c .before .before .pre .1, omega arith)
 
 returns : tie.Need-returns Inv-loop μ-loop
 returns c = λ e. c .before .excludes .ensures (c .if1 .taken)
 
 add-k : tie.Need-add-k Inv-loop μ-loop
-add-k c = omega (arith, c .before .before .before .before .pre .0 .few-rules, c .before .before .loop-test .taken)
+add-k c = omega (arith, c .before .before .before .before .pre .0 .few-rules)
 
 loop-less : tie.Need-loop-less Inv-loop μ-loop
-loop-less c = omega (arith, c .before .before .loop-test .taken)
+loop-less c = omega arith
 
 loop-again : tie.Need-loop-again Inv-loop μ-loop
-loop-again c = omega (arith, c .before .before .loop-test .taken)
+loop-again c = (refl, omega arith)
 
 returns-2 : tie.Need-returns-2 Inv-loop μ-loop
 returns-2 c = λ e. true-false e refl

@@ -1,34 +1,34 @@
 -- `search::opposed::opposed` meets its contract. Assumes nothing.
-use mathlib.Core.Path.{refl}
-use Prim.Native.Nat.{_-_, _≤_}
+use mathlib.Core.Path.{_≡_, refl}
+use Prim.Native.Nat.{_≤_, _-_}
 use native.Mathlib.Omega.{arith}
 use Rattle.bits.proofs.Below.{true-false}
 use Rattle.search.proofs.opposed.opposed.Statement.{statement}
 use Rattle.search.proofs.opposed.opposed.Tie as tie
 
 abbrev Inv-loop : tie.InvT-loop
-Inv-loop steps rules kind level limit scope i₀ i = i ≤ rules
+Inv-loop size rule rules i₀ i = (rules ≡ size .rules) × (i ≤ rules)
 
 abbrev μ-loop : tie.MeasureT-loop
-μ-loop steps rules kind level limit scope i₀ i = rules - i
+μ-loop size rule rules i₀ i = rules - i
 
 loop-holds : tie.Need-loop-holds Inv-loop μ-loop
-loop-holds c = omega arith
+loop-holds c = (refl, omega arith)
 
 excludes-some-requires : tie.Need-excludes-some-requires Inv-loop μ-loop
-excludes-some-requires c κs = (c .before .before .pre, c .loop-test .taken)
+excludes-some-requires c κs = (c .before .before .pre, omega arith)
 
 returns : tie.Need-returns Inv-loop μ-loop
 returns c = λ e. c .before .excludes-some .ensures (c .if1 .taken)
 
 add-i : tie.Need-add-i Inv-loop μ-loop
-add-i c = omega (arith, c .before .before .before .before .pre .few-rules, c .before .before .loop-test .taken)
+add-i c = omega (arith, c .before .before .before .before .pre .few-rules)
 
 loop-less : tie.Need-loop-less Inv-loop μ-loop
-loop-less c = omega (arith, c .before .before .loop-test .taken)
+loop-less c = omega arith
 
 loop-again : tie.Need-loop-again Inv-loop μ-loop
-loop-again c = omega (arith, c .before .before .loop-test .taken)
+loop-again c = (refl, omega arith)
 
 returns-2 : tie.Need-returns-2 Inv-loop μ-loop
 returns-2 c = λ e. true-false e refl

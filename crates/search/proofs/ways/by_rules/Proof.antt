@@ -1,49 +1,35 @@
--- `search::ways::by_rules` keeps to its arrays. Assumes nothing.
-use Prim.Native.Nat.{_-_, _≤_}
+-- `search::ways::by_rules` meets its contract. Assumes nothing.
+use mathlib.Core.Path.{_≡_}
+use Prim.Native.Nat.{_≤_, _-_}
 use native.Mathlib.Omega.{arith}
 use lib.ListN.{length}
-use mathlib.Core.Path.{_≡_}
 use Rattle.search.proofs.ways.by_rules.Statement.{statement}
 use Rattle.search.proofs.ways.by_rules.Tie as tie
 
 abbrev Inv-loop : tie.InvT-loop
-Inv-loop size kind level limit scope placed label free₀ rules i₀ free i = (i ≤ size .rules) × (length free ≡ 36)
+Inv-loop rule placed label free₀ rules i₀ free i = (i ≤ rules) × (length free ≡ 36)
 
 abbrev μ-loop : tie.MeasureT-loop
-μ-loop size kind level limit scope placed label free₀ rules i₀ free i = size .rules - i
+μ-loop rule placed label free₀ rules i₀ free i = rules - i
 
 loop-holds : tie.Need-loop-holds Inv-loop μ-loop
 loop-holds c = (omega arith, c .pre .2)
 
-element-copy-out-by-rule : tie.Need-element-copy-out-by-rule Inv-loop μ-loop
-element-copy-out-by-rule c = omega (arith, c .before .before .pre .0 .few-rules, c .before .before .pre .0 .kinds)
-
-element-copy-out-by-rule-2 : tie.Need-element-copy-out-by-rule-2 Inv-loop μ-loop
-element-copy-out-by-rule-2 c = omega (arith, c .before .before .before .pre .0 .few-rules, c .before .before .before .pre .0 .limits)
-
-element-copy-out-by-rule-3 : tie.Need-element-copy-out-by-rule-3 Inv-loop μ-loop
-element-copy-out-by-rule-3 c = omega (arith, c .before .before .before .before .pre .0 .few-rules, c .before .before .before .before .pre .0 .levels)
-
-sub-by-rule : tie.Need-sub-by-rule Inv-loop μ-loop
-sub-by-rule c = c .before .before .before .before .before .pre .0 .from (c .before .before .before .before .loop .i) (omega arith)
-
-cast-by-rule : tie.Need-cast-by-rule Inv-loop μ-loop
-cast-by-rule c = omega (arith, c .before .before .before .before .before .pre .0 .to (c .before .before .before .before .loop .i) (omega arith))
-
 mul-by-rule : tie.Need-mul-by-rule Inv-loop μ-loop
-mul-by-rule c = omega (arith, c .before .before .before .before .before .pre .0 .to (c .before .before .before .before .loop .i) (omega arith))
+mul-by-rule c = omega (arith, c .before .before .pre .0 .few-rules)
 
-mul-by-rule-2 : tie.Need-mul-by-rule-2 Inv-loop μ-loop
-mul-by-rule-2 c = omega (arith, c .before .before .before .before .before .pre .0 .few-rules)
-
-element-copy-out-by-rule-4 : tie.Need-element-copy-out-by-rule-4 Inv-loop μ-loop
-element-copy-out-by-rule-4 c = omega (arith, c .before .before .before .before .before .pre .0 .few-rules, c .before .before .before .before .before .pre .0 .scopes)
+element-copy-out-by-rule : tie.Need-element-copy-out-by-rule Inv-loop μ-loop
+element-copy-out-by-rule c = omega (arith, c .before .before .pre .0 .few-rules)
 
 by-rule-requires : tie.Need-by-rule-requires Inv-loop μ-loop
-by-rule-requires c κs = (omega (arith, c .before .before .before .before .before .before .before .pre .0 .to (c .before .before .before .before .before .before .loop .i) (omega arith)), c .before .before .before .before .before .before .before .pre .1, c .before .before .before .before .before .before .loop .inv .1)
+by-rule-requires c κs =
+    let l = c .before .before .before in
+    let p = l .before .pre in
+    let ok = p .0 .rule-ok (l .loop .i) (c .before .before .loop-test .taken) in
+    (ok .from, omega (arith, ok .to, p .0 .few-levels), p .1, l .loop .inv .1)
 
 add-i : tie.Need-add-i Inv-loop μ-loop
-add-i c = omega arith
+add-i c = omega (arith, c .before .before .before .loop-test .taken)
 
 loop-less : tie.Need-loop-less Inv-loop μ-loop
 loop-less c = omega arith
@@ -61,14 +47,8 @@ by-rules-spec =
     Inv-loop
     μ-loop
     loop-holds
-    element-copy-out-by-rule
-    element-copy-out-by-rule-2
-    element-copy-out-by-rule-3
-    sub-by-rule
-    cast-by-rule
     mul-by-rule
-    mul-by-rule-2
-    element-copy-out-by-rule-4
+    element-copy-out-by-rule
     by-rule-requires
     add-i
     loop-less

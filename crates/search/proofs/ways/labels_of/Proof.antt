@@ -2,7 +2,7 @@
 use Prim.Native.Nat.{_-_, _<_}
 use native.Mathlib.Omega.{arith}
 use borrow.Author.Needs.{needs}
-use Rattle.narrow.proofs.Masks.{lowest-less, lowest-below}
+use Rattle.bits.proofs.Masks.{lowest-less, lowest-below}
 use Rattle.search.proofs.ways.labels_of.Statement.{statement}
 use Rattle.search.proofs.ways.labels_of.Tie as tie
 

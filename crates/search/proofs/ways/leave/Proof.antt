@@ -5,7 +5,7 @@ use lib.ListN.{length}
 use borrow.Author.Needs.{needs}
 use mathlib.Core.Path.{_≡_}
 use lib.ListN.{length-set}
-use Rattle.narrow.proofs.Masks.{lowest-less, lowest-below}
+use Rattle.bits.proofs.Masks.{lowest-less, lowest-below}
 use Rattle.search.proofs.ways.leave.Statement.{statement}
 use Rattle.search.proofs.ways.leave.Tie as tie
 

@@ -1,12 +1,12 @@
--- `search::ways::ways_of` keeps to its arrays: a level has 16 groups at most. Assumes nothing.
-use Prim.Native.Nat.{_*_, _-_, _≤_}
+-- `search::ways::ways_of` meets its contract, which says nothing of the result: the ways are few enough to be counted. Assumes nothing.
+use Prim.Native.Nat.{_*_, _≤_, _-_}
 use native.Mathlib.Omega.{arith}
 use borrow.Author.Needs.{needs}
 use Rattle.search.proofs.ways.ways_of.Statement.{statement}
 use Rattle.search.proofs.ways.ways_of.Tie as tie
 
 abbrev Inv-loop : tie.InvT-loop
-Inv-loop levels reach free label heads s ways₀ k₀ ways k = (k ≤ levels) × (ways ≤ 16 * k)
+Inv-loop levels reach free label heads s ways₀ k₀ ways k = (k ≤ levels) × (ways ≤ k * 16)
 
 abbrev μ-loop : tie.MeasureT-loop
 μ-loop levels reach free label heads s ways₀ k₀ ways k = levels - k
@@ -29,11 +29,14 @@ element-copy-out-joined c = omega arith
 joined-requires : tie.Need-joined-requires Inv-loop μ-loop
 joined-requires c κs = let p = c .before .before .before .pre in (omega arith, p .1, omega arith, p .2, p .3, p .4)
 
-number-requires : tie.Need-number-requires Inv-loop μ-loop
-number-requires c κs = search needs
+size-requires : tie.Need-size-requires Inv-loop μ-loop
+size-requires c κs = tt
+
+cast-ways : tie.Need-cast-ways Inv-loop μ-loop
+cast-ways c = omega (arith, c .size .ensures .1)
 
 add-ways : tie.Need-add-ways Inv-loop μ-loop
-add-ways c = omega (arith, c .number .ensures)
+add-ways c = omega (arith, c .size .ensures .1)
 
 mul-has : tie.Need-mul-has Inv-loop μ-loop
 mul-has c = omega arith
@@ -60,7 +63,7 @@ loop-less : tie.Need-loop-less Inv-loop μ-loop
 loop-less c = omega arith
 
 loop-again : tie.Need-loop-again Inv-loop μ-loop
-loop-again c = (omega arith, omega (arith, c .before .before .before .number .ensures))
+loop-again c = (omega arith, omega (arith, c .before .before .before .size .ensures .1))
 
 add-result : tie.Need-add-result Inv-loop μ-loop
 add-result c = omega arith
@@ -80,7 +83,8 @@ ways-of-spec =
     mul-joined
     element-copy-out-joined
     joined-requires
-    number-requires
+    size-requires
+    cast-ways
     add-ways
     mul-has
     add-has

@@ -1,0 +1,81 @@
+-- `backtrack::order::keys` meets its contract. Assumes nothing.
+use mathlib.Core.Path.{_≡_, refl, _∙_}
+use Prim.Native.Nat.{_<_}
+use native.Mathlib.Omega.{arith}
+use lib.ListN.{length, length-set}
+use borrow.Author.Needs.{needs}
+use Rattle.bits.proofs.Masks.{lowest-less, lowest-below}
+use Rattle.backtrack.proofs.order.keys.Statement.{statement}
+use Rattle.backtrack.proofs.order.keys.Tie as tie
+
+abbrev Inv-loop : tie.InvT-loop
+Inv-loop of dom steps all₀ left₀ all left = (length all ≡ 12) × (left < 4096)
+
+abbrev μ-loop : tie.MeasureT-loop
+μ-loop of dom steps all₀ left₀ all left = left
+
+loop-holds : tie.Need-loop-holds Inv-loop μ-loop
+loop-holds c = (refl, c .pre .0)
+
+lowest-requires : tie.Need-lowest-requires Inv-loop μ-loop
+lowest-requires c κs = search needs
+
+without-requires : tie.Need-without-requires Inv-loop μ-loop
+without-requires c κs = search needs
+
+-- the step of a turn
+below : (c : tie.After-without Inv-loop μ-loop) → c .before .lowest .result < 12
+below c = lowest-below (c .before .before .before .loop .inv .1) (c .before .lowest .ensures .1)
+
+mul-key : tie.Need-mul-key Inv-loop μ-loop
+mul-key c = omega (arith, below c)
+
+element-copy-out-key : tie.Need-element-copy-out-key Inv-loop μ-loop
+element-copy-out-key c = omega (arith, below c, c .before .before .before .before .pre .2)
+
+mul-key-2 : tie.Need-mul-key-2 Inv-loop μ-loop
+mul-key-2 c = omega (arith, below (c .before))
+
+element-copy-out-key-2 : tie.Need-element-copy-out-key-2 Inv-loop μ-loop
+element-copy-out-key-2 c = omega (arith, below (c .before), c .before .before .before .before .before .pre .1)
+
+key-requires : tie.Need-key-requires Inv-loop μ-loop
+key-requires c κs = tt
+
+mul-all : tie.Need-mul-all Inv-loop μ-loop
+mul-all c = omega (arith, below (c .before .before .before))
+
+array-write-all : tie.Need-array-write-all Inv-loop μ-loop
+array-write-all c = omega (arith, below (c .before .before .before), c .before .before .before .before .before .before .loop .inv .0)
+
+loop-less : tie.Need-loop-less Inv-loop μ-loop
+loop-less c = lowest-less (c .before .before .before .before .lowest .ensures .1) (c .before .before .before .without .ensures)
+
+loop-again : tie.Need-loop-again Inv-loop μ-loop
+loop-again c =
+    let l = c .before .before .before .before .before .before .loop in
+    let less = lowest-less (c .before .before .before .before .lowest .ensures .1) (c .before .before .before .without .ensures) in
+    (length-set (l .all) (c .before .before .before .before .lowest .result) (c .key .result) ∙ l .inv .0, omega (arith, l .inv .1))
+
+returns : tie.Need-returns Inv-loop μ-loop
+returns c = c .before .loop .inv .0
+
+pub keys-spec : {M : Type 1} → statement M
+keys-spec =
+    tie.close
+    (tie.spec
+    Inv-loop
+    μ-loop
+    loop-holds
+    lowest-requires
+    without-requires
+    mul-key
+    element-copy-out-key
+    mul-key-2
+    element-copy-out-key-2
+    key-requires
+    mul-all
+    array-write-all
+    loop-less
+    loop-again
+    returns)

@@ -1,0 +1,183 @@
+-- More laws of words as sets: the whole set, the bound of a word, some element, and the number of elements. Assumes nothing.
+use mathlib.Core.Bool.{Bool, true, false, not, _&&_, _||_}
+use mathlib.Core.List.{List}
+use mathlib.Core.Path.{_≡_, refl, sym, subst, ap, _∙_}
+use Prim.Native.Nat.{ℕ, zero, suc, _+_, _*_, _-_, _%_, _^_, _≤_, _<_}
+use native.Mathlib.Omega.{arith}
+use native.Mathlib.Nat.{pow-suc, one-mul}
+use lib.Bits.{bitAnd, bitXor}
+use lib.Count.{ones, trailingZeros}
+use lib.Dec.{lit<, ltb, eqb}
+use lib.ListN.{getD}
+use lib.Pow.{pow-pos, shl-exact}
+use borrow.Author.Tests.{eqb-true, eqb-false}
+use Rattle.bits.specs.Below.{count}
+use Rattle.bits.specs.Word.{hasBit}
+use Rattle.bits.specs.Set.{unlike, Added, Removed, Lowest, Mask, Sifted, LeastKey}
+use Rattle.bits.proofs.Below.{by-cases, true-false}
+use Rattle.bits.proofs.Counting.{and-of, is-false, count-false}
+use Rattle.bits.proofs.Ones.{ones-bits}
+use Rattle.bits.proofs.SetLaws.{and-bit-left, xor-bit, full-has, full-bit, has-below, part-le, trailing-lowest, empty-lacks, zero-empty, added-has, added-other, removed-other, removed-was, removed-differs, removed-less}
+
+pub or-cases : {P : Type 0} (a b : Bool) → a || b ≡ true → (a ≡ true → P) → (b ≡ true → P) → P
+or-cases true b h f g = f refl
+or-cases false b h f g = g h
+
+pub or-left : (a b : Bool) → a ≡ true → a || b ≡ true
+or-left a b h = ap (λ (x : Bool). x || b) h
+
+pub or-right : (a b : Bool) → b ≡ true → a || b ≡ true
+or-right true b h = refl
+or-right false b h = h
+
+-- all but those of x
+pub xor-all : (x j : ℕ) → j < 64 → hasBit (bitXor x 18446744073709551615) j ≡ not (hasBit x j)
+xor-all x j l = xor-bit x 18446744073709551615 j ∙ ap (unlike (hasBit x j)) (full-has 64 j l) ∙ cases (hasBit x j)
+  where
+    cases : (a : Bool) → unlike a true ≡ not a
+    cases true = refl
+    cases false = refl
+
+pub all-has : (j : ℕ) → j < 64 → hasBit 18446744073709551615 j ≡ true
+all-has j l = full-has 64 j l
+
+-- a set of numbers below n, as a number
+pub bits-below : (n x : ℕ) → ((j : ℕ) → hasBit x j ≡ true → j < n) → x < 2 ^ n
+bits-below n x h =
+    let p : 0 < 2 ^ n = pow-pos n in
+    let q : x ≤ 2 ^ n - 1 = part-le x (2 ^ n - 1) (λ j t. full-has n j (h j t)) in
+    omega arith
+
+lt-pow : (n : ℕ) → n < 2 ^ n
+lt-pow zero = lit< tt
+lt-pow (suc n) = let h : n < 2 ^ n = lt-pow n in let e : 2 ^ suc n ≡ 2 ^ n * 2 = pow-suc 2 n in omega arith
+
+-- a set that is not empty has an element
+pub some-bit : (x : ℕ) → (x ≡ 0 → ⊥) → (j : ℕ) × (hasBit x j ≡ true)
+some-bit x h = (trailingZeros x x, trailing-lowest x x (lt-pow x) h .has)
+
+-- a part of what is left without the lowest is less: the measure of a loop over a set
+pub part-less : (left p rest other : ℕ) → Lowest left p → Removed left p rest → bitAnd rest other < left
+part-less left p rest other low gone =
+    let a : bitAnd rest other ≤ rest = part-le (bitAnd rest other) rest (and-bit-left rest other) in
+    let b : rest < left = removed-less (low .has) gone in
+    omega arith
+
+-- the lowest of a set of numbers below 12
+pub lowest-below : {left s : ℕ} → left < 4096 → Lowest left s → s < 12
+lowest-below {left} {s} l low = has-below 12 left s l (low .has)
+
+pub lowest-less : {left s rest : ℕ} → Lowest left s → Removed left s rest → rest < left
+lowest-less low gone = removed-less (low .has) gone
+
+count-cut : (n k : ℕ) (f : ℕ → Bool) → ((s : ℕ) → f s ≡ true → s < n) → count (k + n) f ≡ count n f
+count-cut n zero f h = let e : 0 + n ≡ n = omega arith in ap (λ (x : ℕ). count x f) e
+count-cut n (suc k) f h =
+    let e : suc k + n ≡ suc (k + n) = omega arith in
+    ap (λ (x : ℕ). count x f) e ∙ count-false (k + n) f (is-false _ (λ t. omega (arith, h (k + n) t))) ∙ count-cut n k f h
+
+-- the machine's count of a set of numbers below n
+pub ones-count : (n x : ℕ) → n ≤ 16 → x < 65536 → ((s : ℕ) → hasBit x s ≡ true → s < n) → ones x ≡ count n (hasBit x)
+ones-count n x l b h =
+    let e : 16 ≡ (16 - n) + n = omega arith in
+    ones-bits 16 x b ∙ ap (λ (m : ℕ). count m (hasBit x)) e ∙ count-cut n (16 - n) (hasBit x) h
+
+-- ---- masks of sets
+
+pub mask-has : {S : ℕ → Bool} {r : ℕ} → Mask S r → (i : ℕ) → S i ≡ true → hasBit r i ≡ true
+mask-has m i h = m .each i ∙ h
+
+pub mask-in : {S : ℕ → Bool} {r : ℕ} → Mask S r → (i : ℕ) → hasBit r i ≡ true → S i ≡ true
+mask-in m i h = sym (m .each i) ∙ h
+
+-- ---- sifting
+
+pub sifted-none : (all : ℕ) (test : ℕ → Bool) → Sifted all test all 0
+sifted-none all test =
+    record {
+      part = λ i h. h;
+      done = λ i h. empty-lacks i ∙ ap (λ (b : Bool). b && test i) (sym h);
+      left = λ i h. empty-lacks i;
+    }
+
+module _ {all : ℕ} {test : ℕ → Bool} {rest r i rest′ : ℕ} where
+  pub sifted-skip : Sifted all test rest r → Removed rest i rest′ → hasBit rest i ≡ true → test i ≡ false → Sifted all test rest′ r
+  sifted-skip w gone has fails =
+      record {
+        part = λ k h. w .part k (removed-was gone k h);
+        done = λ k h.
+            by-cases (eqb k i)
+            (λ t. let e : k ≡ i = eqb-true k i t in
+            subst (λ (x : ℕ). hasBit r x ≡ hasBit all x && test x) (sym e)
+            (w .left i has ∙ sym (ap (λ (b : Bool). b && test i) (w .part i has) ∙ fails)))
+            (λ t. w .done k (sym (removed-other gone k (eqb-false k i t)) ∙ h));
+        left = λ k h. w .left k (removed-was gone k h);
+      }
+
+  pub sifted-take : {r′ : ℕ} → Sifted all test rest r → Removed rest i rest′ → hasBit rest i ≡ true → test i ≡ true → Added r i r′ → Sifted all test rest′ r′
+  sifted-take {r′} w gone has holds more =
+      record {
+        part = λ k h. w .part k (removed-was gone k h);
+        done = λ k h.
+            by-cases (eqb k i)
+            (λ t. let e : k ≡ i = eqb-true k i t in
+            subst (λ (x : ℕ). hasBit r′ x ≡ hasBit all x && test x) (sym e) (added-has more ∙ sym (and-of (hasBit all i) (test i) (w .part i has) holds)))
+            (λ t. let d : k ≡ i → ⊥ = eqb-false k i t in
+            added-other more k d ∙ w .done k (sym (removed-other gone k d) ∙ h));
+        left = λ k h. added-other more k (removed-differs gone k h) ∙ w .left k (removed-was gone k h);
+      }
+
+-- with nothing left, the mask is that of a set which the test gives
+pub sifted-all : (S : ℕ → Bool) {all : ℕ} {test : ℕ → Bool} {rest r : ℕ} → Sifted all test rest r → rest ≡ 0 → ((i : ℕ) → hasBit all i && test i ≡ S i) → Mask S r
+sifted-all S {rest = rest} w e same = record { each = λ i. w .done i (zero-empty rest e i) ∙ same i }
+
+-- the numbers below n are the lowest n bits
+pub below-mask : (n word : ℕ) → word ≡ 2 ^ n - 1 → Mask (λ i. ltb i n) word
+below-mask n word e = record { each = λ i. ap (λ (x : ℕ). hasBit x i) e ∙ full-bit n i }
+
+-- the shift of a machine word of 16 or 64 bits
+pub one-shifted : (w i : ℕ) → i < w → 1 * 2 ^ i % 2 ^ w ≡ 2 ^ i
+one-shifted w i l = shl-exact 1 i w (lit< tt) (omega arith) ∙ one-mul (2 ^ i)
+
+pub one-shifted-pos : (w i : ℕ) → i < w → 1 ≤ 1 * 2 ^ i % 2 ^ w
+one-shifted-pos w i l = subst (λ (x : ℕ). 1 ≤ x) (sym (one-shifted w i l)) (pow-pos i)
+
+-- the lowest element of a part of a set of numbers below n
+pub part-below : (n all rest i : ℕ) → all < 2 ^ n → ((j : ℕ) → hasBit rest j ≡ true → hasBit all j ≡ true) → Lowest rest i → i < n
+part-below n all rest i l part low = has-below n all i l (part i (low .has))
+
+-- ---- the least key
+
+module _ (key : List ℕ) (m : ℕ) where
+  pub least-start : {i left : ℕ} → Lowest m i → Removed m i left → LeastKey key m left i
+  least-start {i} {left} low gone =
+      record {
+        has = low .has;
+        part = λ j h. removed-was gone j h;
+        least = λ j h n.
+            by-cases (eqb j i)
+            (λ t. subst (λ (k : ℕ). getD key i 0 ≤ getD key k 0) (sym (eqb-true j i t)) (omega arith))
+            (λ t. true-false (removed-other gone j (eqb-false j i t) ∙ h) n);
+      }
+
+  module _ {left best i left′ : ℕ} (w : LeastKey key m left best) (low : Lowest left i) (gone : Removed left i left′) where
+    -- the least of those passed and of i
+    least-more : (k : ℕ) → hasBit m k ≡ true → getD key k 0 ≤ getD key best 0 → getD key k 0 ≤ getD key i 0 → LeastKey key m left′ k
+    least-more k h a b =
+        record {
+          has = h;
+          part = λ j x. w .part j (removed-was gone j x);
+          least = λ j x n.
+              by-cases (eqb j i)
+              (λ t. subst (λ (y : ℕ). getD key k 0 ≤ getD key y 0) (sym (eqb-true j i t)) b)
+              (λ t. let l = w .least j x (sym (removed-other gone j (eqb-false j i t)) ∙ n) in omega arith);
+        }
+
+    pub least-kept : getD key best 0 ≤ getD key i 0 → LeastKey key m left′ best
+    least-kept l = least-more best (w .has) (omega arith) l
+
+    pub least-new : getD key i 0 < getD key best 0 → LeastKey key m left′ i
+    least-new l = least-more i (w .part i (low .has)) (omega arith) (omega arith)
+
+  pub least-all : {left i : ℕ} → LeastKey key m left i → left ≡ 0 → LeastKey key m 0 i
+  least-all {left} {i} w e = subst (λ (x : ℕ). LeastKey key m x i) e w

@@ -1,0 +1,104 @@
+-- `levels::index::by_name` meets its contract: the people passed are in the crowds of their classes. Assumes nothing.
+use Prim.Native.Nat.{_≤_, _-_}
+use Rattle.levels.specs.Tabled.{ByName}
+use Rattle.levels.proofs.Crowds.{named-none, named-skip, named-take, named-all}
+use native.Mathlib.Omega.{arith}
+use borrow.Author.Needs.{needs}
+use Rattle.levels.proofs.index.by_name.Statement.{statement}
+use Rattle.levels.proofs.index.by_name.Tie as tie
+
+abbrev Inv-loop : tie.InvT-loop
+Inv-loop people levels class crowd₀ x₀ x-end crowd x = (x ≤ x-end) × ByName people levels class x crowd
+
+abbrev μ-loop : tie.MeasureT-loop
+μ-loop people levels class crowd₀ x₀ x-end crowd x = x-end - x
+
+mul-x-end : tie.Need-mul-x-end Inv-loop μ-loop
+mul-x-end c = omega arith
+
+loop-holds : tie.Need-loop-holds Inv-loop μ-loop
+loop-holds c = let a = c .args in let q = c .pre in (omega arith, named-none (a .people) (a .levels) (q .0) (q .1) (a .class .now))
+
+add-x : tie.Need-add-x Inv-loop μ-loop
+add-x c = omega arith
+
+loop-less : tie.Need-loop-less Inv-loop μ-loop
+loop-less c = omega arith
+
+loop-again : tie.Need-loop-again Inv-loop μ-loop
+loop-again c =
+    let a = c .before .before .before .args in
+    let q = c .before .before .before .pre in
+    let l = c .before .before .loop in
+    (omega arith, named-skip (a .people) (a .levels) (q .0) (q .1) (a .class .now) (l .x) (l .crowd) (l .inv .1) (c .before .loop-test .taken) (c .if1 .taken))
+
+sub-v : tie.Need-sub-v Inv-loop μ-loop
+sub-v c = omega arith
+
+element-copy-out-v : tie.Need-element-copy-out-v Inv-loop μ-loop
+element-copy-out-v c = omega arith
+
+cast-v : tie.Need-cast-v Inv-loop μ-loop
+cast-v c = omega arith
+
+add-v : tie.Need-add-v Inv-loop μ-loop
+add-v c = omega arith
+
+mul-with : tie.Need-mul-with Inv-loop μ-loop
+mul-with c = omega arith
+
+array-read-with : tie.Need-array-read-with Inv-loop μ-loop
+array-read-with c = omega arith
+
+with-requires : tie.Need-with-requires Inv-loop μ-loop
+with-requires c κs = search needs
+
+mul-crowd : tie.Need-mul-crowd Inv-loop μ-loop
+mul-crowd c = omega arith
+
+array-write-crowd : tie.Need-array-write-crowd Inv-loop μ-loop
+array-write-crowd c = omega arith
+
+add-x-2 : tie.Need-add-x-2 Inv-loop μ-loop
+add-x-2 c = omega arith
+
+loop-less-2 : tie.Need-loop-less-2 Inv-loop μ-loop
+loop-less-2 c = omega arith
+
+loop-again-2 : tie.Need-loop-again-2 Inv-loop μ-loop
+loop-again-2 c =
+    let a = c .before .before .before .before .before .args in
+    let q = c .before .before .before .before .before .pre in
+    let l = c .before .before .before .before .loop in
+    (omega arith, named-take (a .people) (a .levels) (q .0) (q .1) (a .class .now) (l .x) (l .crowd) (l .inv .1) (c .before .before .before .loop-test .taken) (c .with .result) (c .before .before .if1 .left) (c .with .ensures))
+
+returns : tie.Need-returns Inv-loop μ-loop
+returns c =
+    let a = c .before .before .args in
+    let l = c .before .loop in
+    named-all (a .people) (a .levels) (a .class .now) (l .x) (l .crowd) (l .inv .0) (c .loop-test .left) (l .inv .1)
+
+pub by-name-spec : {M : Type 1} → statement M
+by-name-spec =
+    tie.close
+    (tie.spec
+    Inv-loop
+    μ-loop
+    mul-x-end
+    loop-holds
+    add-x
+    loop-less
+    loop-again
+    sub-v
+    element-copy-out-v
+    cast-v
+    add-v
+    mul-with
+    array-read-with
+    with-requires
+    mul-crowd
+    array-write-crowd
+    add-x-2
+    loop-less-2
+    loop-again-2
+    returns)

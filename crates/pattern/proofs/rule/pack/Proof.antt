@@ -1,0 +1,50 @@
+-- `pattern::rule::pack` meets its contract. Assumes nothing.
+use borrow.Author.Needs.{needs}
+use Rattle.pattern.proofs.Packing.{packed}
+use Rattle.pattern.proofs.rule.pack.Statement.{statement}
+use Rattle.pattern.proofs.rule.pack.Tie as tie
+
+cast-result : tie.Need-cast-result
+cast-result c = search needs
+
+mul-result : tie.Need-mul-result
+mul-result c = search needs
+
+add-result : tie.Need-add-result
+add-result c = search needs
+
+cast-result-2 : tie.Need-cast-result-2
+cast-result-2 c = search needs
+
+mul-result-2 : tie.Need-mul-result-2
+mul-result-2 c = search needs
+
+add-result-2 : tie.Need-add-result-2
+add-result-2 c = search needs
+
+cast-result-3 : tie.Need-cast-result-3
+cast-result-3 c = search needs
+
+mul-result-3 : tie.Need-mul-result-3
+mul-result-3 c = search needs
+
+add-result-3 : tie.Need-add-result-3
+add-result-3 c = search needs
+
+returns : tie.Need-returns
+returns c = let a = c .args in packed (a .level) (a .least) (a .most) (a .scope) (c .pre .0) (c .pre .1) (c .pre .2) (c .fits .scope .fits)
+
+pub pack-spec : {M : Type 1} → statement M
+pack-spec =
+    tie.close
+    (tie.spec
+    cast-result
+    mul-result
+    add-result
+    cast-result-2
+    mul-result-2
+    add-result-2
+    cast-result-3
+    mul-result-3
+    add-result-3
+    returns)

@@ -1,0 +1,49 @@
+// A rule as one number: the mask of its scope in 16 bits, then its level, the least and the greatest count,
+// four bits each.
+ghost use mathlib.Core.Path.{_≡_};
+ghost use Prim.Native.Nat.{_<_};
+ghost use Rattle.pattern.specs.Rule.{scopeIn, levelIn, leastIn, mostIn, Packed};
+
+// The mask of the steps of its scope.
+pub fn scope(rule: u32) -> u16
+    ensures { λ r. ⌜ r ≡ scopeIn rule ⌝ }
+{
+    (rule % 65536) as u16
+}
+
+// Its level, from 1.
+pub fn level(rule: u32) -> usize
+    ensures { λ r. ⌜ (r ≡ levelIn rule) × (r < 16) ⌝ }
+{
+    (rule / 65536 % 16) as usize
+}
+
+// Its least count.
+pub fn least(rule: u32) -> usize
+    ensures { λ r. ⌜ (r ≡ leastIn rule) × (r < 16) ⌝ }
+{
+    (rule / 1048576 % 16) as usize
+}
+
+// Its greatest count.
+pub fn most(rule: u32) -> usize
+    ensures { λ r. ⌜ (r ≡ mostIn rule) × (r < 16) ⌝ }
+{
+    (rule / 16777216 % 16) as usize
+}
+
+// The number of a rule.
+pub fn pack(level: usize, least: usize, most: usize, scope: u16) -> u32
+    requires { ⌜ (level < 16) × (least < 16) × (most < 16) ⌝ }
+    ensures { λ r. ⌜ Packed level least most scope r ⌝ }
+{
+    scope as u32 + 65536 * level as u32 + 1048576 * least as u32 + 16777216 * most as u32
+}
+
+// The rule at another level.
+pub fn moved(rule: u32, level: usize) -> u32
+    requires { ⌜ level < 16 ⌝ }
+    ensures { λ r. ⌜ Packed level (leastIn rule) (mostIn rule) (scopeIn rule) r ⌝ }
+{
+    pack(level, least(rule), most(rule), scope(rule))
+}

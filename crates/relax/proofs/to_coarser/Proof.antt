@@ -1,0 +1,97 @@
+-- `relax::to_coarser` meets its contract. Assumes nothing.
+use mathlib.Core.Path.{_≡_, refl, sym, subst}
+use Prim.Native.Nat.{ℕ, _<_}
+use native.Mathlib.Omega.{arith}
+use borrow.Author.Needs.{needs}
+use Rattle.bits.proofs.Counting.{count-le}
+use Rattle.bits.specs.Word.{hasBit}
+use Rattle.pattern.proofs.Packing.{packed-as}
+use Rattle.pattern.specs.Rule.{scopeIn}
+use Rattle.pattern.specs.Tables.{classIn}
+use Rattle.relax.proofs.Following.{follows-one, follows-several}
+use Rattle.relax.specs.Bound.{Nests, Tally, numbered, Needs}
+use Rattle.relax.proofs.to_coarser.Statement.{statement}
+use Rattle.relax.proofs.to_coarser.Tie as tie
+
+least-requires : tie.Need-least-requires
+least-requires c κs = search needs
+
+moved-requires : tie.Need-moved-requires
+moved-requires c κs = search needs
+
+returns : tie.Need-returns
+returns c =
+    let s = c .before .before .before in
+    follows-one (s .pre .0) (s .pre .1) (omega (arith, c .before .before .least .ensures .0, c .before .if1 .taken)) (c .moved .ensures)
+
+level-requires : tie.Need-level-requires
+level-requires c κs = search needs
+
+ranks-requires : tie.Need-ranks-requires
+ranks-requires c κs =
+    let s = c .before .before .before in
+    let w = s .pre .0 in
+    let e = c .level .ensures .0 in (
+      w .few-people,
+      w .classes,
+      w .from,
+      omega (arith, w .to, w .few-levels),
+      omega (arith, w .rule-ok .from),
+      omega (arith, w .rule-ok .to, w .few-levels),
+      subst (λ (k : ℕ). Nests (s .args .size .people) (classIn (s .args .class .now) (s .args .q)) (classIn (s .args .class .now) k)) (sym e)
+          (w .nests _ _ (w .from) (s .pre .1) (w .rule-ok .to)),
+    )
+
+cast-fewest : tie.Need-cast-fewest
+cast-fewest c = search needs
+
+fewest-requires : tie.Need-fewest-requires
+fewest-requires c κs =
+    let s = c .before .before .before .before .before in
+    let w = s .pre .0 in
+    let l = c .before .before .before .before .least in (
+      c .before .ranks .ensures .sized,
+      omega (arith, c .before .before .before .if1 .left),
+      omega (arith, l .ensures .0, w .rule-ok .reachable, count-le (s .args .size .steps) (hasBit (scopeIn (s .args .r))), w .few-steps),
+    )
+
+cast-pack : tie.Need-cast-pack
+cast-pack c = search needs
+
+most-requires : tie.Need-most-requires
+most-requires c κs = search needs
+
+scope-requires : tie.Need-scope-requires
+scope-requires c κs = search needs
+
+pack-requires : tie.Need-pack-requires
+pack-requires c κs = search needs
+
+returns-2 : tie.Need-returns-2
+returns-2 c =
+    let f = c .before .before .before in
+    let l = f .before .before .before .before .before in
+    let s = l .before in
+    follows-several (s .pre .0) (s .pre .1)
+    (subst (λ (k : ℕ). Tally (s .args .size .people) (numbered (classIn (s .args .class .now) (s .args .q)) (classIn (s .args .class .now) k)) (f .before .before .ranks .result))
+    (f .before .before .before .level .ensures .0) (f .before .before .ranks .ensures))
+    (omega (arith, l .least .ensures .0, f .before .before .before .before .if1 .left))
+    (subst (λ (k : ℕ). Needs (f .before .before .ranks .result) k (f .fewest .result)) (l .least .ensures .0) (f .fewest .ensures))
+    (packed-as refl (c .before .before .most .ensures .0) (c .before .scope .ensures) (c .pack .ensures))
+
+pub to-coarser-spec : {M : Type 1} → statement M
+to-coarser-spec =
+    tie.close
+    (tie.spec
+    least-requires
+    moved-requires
+    returns
+    level-requires
+    ranks-requires
+    cast-fewest
+    fewest-requires
+    cast-pack
+    most-requires
+    scope-requires
+    pack-requires
+    returns-2)

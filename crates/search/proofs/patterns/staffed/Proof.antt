@@ -1,0 +1,59 @@
+-- `search::patterns::staffed` meets its contract: the steps passed have somebody permitted. Assumes nothing.
+use Prim.Native.Nat.{_≤_, _-_}
+use native.Mathlib.Omega.{arith}
+use borrow.Author.Count.{below-more}
+use Rattle.search.specs.Existence.{AllStaffed}
+use Rattle.search.proofs.Staff.{foremost-person, foremost-nobody}
+use Rattle.search.proofs.patterns.staffed.Statement.{statement}
+use Rattle.search.proofs.patterns.staffed.Tie as tie
+
+abbrev Inv-loop : tie.InvT-loop
+Inv-loop steps people may s₀ s = (s ≤ steps) × AllStaffed s people may
+
+abbrev μ-loop : tie.MeasureT-loop
+μ-loop steps people may s₀ s = steps - s
+
+loop-holds : tie.Need-loop-holds Inv-loop μ-loop
+loop-holds c = (omega arith, λ s l. absurd (omega arith))
+
+mul-foremost : tie.Need-mul-foremost Inv-loop μ-loop
+mul-foremost c = omega arith
+
+element-copy-out-foremost : tie.Need-element-copy-out-foremost Inv-loop μ-loop
+element-copy-out-foremost c = omega arith
+
+foremost-requires : tie.Need-foremost-requires Inv-loop μ-loop
+foremost-requires c κs = tt
+
+returns : tie.Need-returns Inv-loop μ-loop
+returns c =
+    let a = c .before .before .before .before .before .args in
+    foremost-nobody (a .steps) (a .people) (c .before .before .before .before .loop .s) (c .before .foremost .result) (a .may .now) (c .before .foremost .ensures) (c .if1 .taken) (c .before .before .before .loop-test .taken)
+
+add-s : tie.Need-add-s Inv-loop μ-loop
+add-s c = omega arith
+
+loop-less : tie.Need-loop-less Inv-loop μ-loop
+loop-less c = omega arith
+
+loop-again : tie.Need-loop-again Inv-loop μ-loop
+loop-again c = (omega arith, below-more _ _ (c .before .before .before .before .loop .inv .1) (foremost-person (c .before .foremost .ensures) (c .before .before .before .before .before .args .people) (c .before .before .before .before .before .pre .1) (c .if1 .left)))
+
+returns-2 : tie.Need-returns-2 Inv-loop μ-loop
+returns-2 c s l = c .before .loop .inv .1 s (omega arith)
+
+pub staffed-spec : {M : Type 1} → statement M
+staffed-spec =
+    tie.close
+    (tie.spec
+    Inv-loop
+    μ-loop
+    loop-holds
+    mul-foremost
+    element-copy-out-foremost
+    foremost-requires
+    returns
+    add-s
+    loop-less
+    loop-again
+    returns-2)

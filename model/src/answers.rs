@@ -1,0 +1,138 @@
+//! What each call has to return and to leave in the answer area, for any sheet, area and cap.
+
+use crate::job::{Job, MOST_STEPS};
+use crate::plans::{first_plan, is_small, spare};
+use crate::reader::read;
+use crate::refusal::{refuse, Refusal, CAP_TOO_HIGH, NO_PLAN, SHORT_ANSWER};
+
+pub const STEP_BYTES: usize = 8;
+pub const MOST_CREW_BYTES: usize = STEP_BYTES * MOST_STEPS;
+pub const SPARE_BYTES: usize = 16;
+pub const MOST_CAP: u32 = 3;
+
+#[derive(Clone, Copy, Debug, PartialEq, Eq)]
+pub enum Call {
+    Crew,
+    Spare { cap: u32 },
+}
+
+/// The returned number, and the whole area after the call.
+#[derive(Clone, Debug, PartialEq, Eq)]
+pub struct Answer {
+    pub number: u32,
+    pub area: Vec<u8>,
+}
+
+/// The bytes of a crew: step tag, then person tag, for each step.
+pub fn crew_bytes(pairs: &[(u32, u32)]) -> Vec<u8> {
+    pairs.iter().flat_map(|(step, person)| [step.to_le_bytes(), person.to_le_bytes()].concat()).collect()
+}
+
+/// The bytes of a spare count: the count, three zeros, three tags.
+pub fn spare_bytes(count: usize, away: &[u32]) -> Vec<u8> {
+    let mut bytes = vec![count as u8, 0, 0, 0];
+    bytes.extend(away.iter().flat_map(|tag| tag.to_le_bytes()));
+    bytes.resize(SPARE_BYTES, 0);
+    bytes
+}
+
+/// How many bytes the call writes for the job.
+pub fn room(call: Call, job: &Job) -> usize {
+    match call {
+        Call::Crew => STEP_BYTES * job.steps.len(),
+        Call::Spare { .. } => SPARE_BYTES,
+    }
+}
+
+/// The job that the call has to plan. "Order: 2, 3, 4; ... 12, 1, 13."
+pub fn job(call: Call, sheet: &[u8], area: usize) -> Result<Job, Refusal> {
+    if matches!(call, Call::Spare { cap } if cap > MOST_CAP) {
+        return refuse(CAP_TOO_HIGH, 0);
+    }
+    let job = read(sheet)?;
+    if area < room(call, &job) {
+        return refuse(SHORT_ANSWER, 0);
+    }
+    Ok(job)
+}
+
+/// The bytes that the call writes for a job, or 13.
+fn planned(call: Call, job: &Job) -> Result<Vec<u8>, Refusal> {
+    let tag = |person: &usize| job.people[*person].tag;
+    match call {
+        Call::Crew => {
+            let Some(plan) = first_plan(job, &[]) else {
+                return refuse(NO_PLAN, 0);
+            };
+            let pairs: Vec<_> = job.steps.iter().zip(&plan).map(|(step, person)| (step.tag, tag(person))).collect();
+            Ok(crew_bytes(&pairs))
+        }
+        Call::Spare { cap } => {
+            let Some(found) = spare(job, cap as usize) else {
+                return refuse(NO_PLAN, 0);
+            };
+            let away: Vec<u32> = found.away.iter().map(tag).collect();
+            Ok(spare_bytes(found.count, &away))
+        }
+    }
+}
+
+/// "Later bytes of the buffer keep their values"; a refusal leaves all of them.
+pub fn settle(written: Result<Vec<u8>, Refusal>, area: &[u8]) -> Answer {
+    let mut area = area.to_vec();
+    match written {
+        Err(refusal) => Answer { number: refusal.returned(), area },
+        Ok(bytes) => {
+            area[..bytes.len()].copy_from_slice(&bytes);
+            Answer { number: 0, area }
+        }
+    }
+}
+
+/// The answer of a call; nothing where the job is too large to try every plan.
+pub fn answer(call: Call, sheet: &[u8], area: &[u8]) -> Option<Answer> {
+    let written = match job(call, sheet, area.len()) {
+        Err(refusal) => Err(refusal),
+        Ok(job) if is_small(&job) => planned(call, &job),
+        Ok(_) => return None,
+    };
+    Some(settle(written, area))
+}
+
+#[cfg(test)]
+mod tests {
+    use super::*;
+    use crate::builder::{plain, sheet_w};
+
+    fn numbers(call: Call, sheet: &[u8], area: &[u8]) -> u32 {
+        answer(call, sheet, area).expect("a small job").number
+    }
+
+    #[test]
+    fn later_bytes_keep_their_values() {
+        let answer = answer(Call::Spare { cap: 0 }, &sheet_w().bytes, &[9; 18]).unwrap();
+        assert_eq!(answer, Answer { number: 0, area: [[0; 16].as_slice(), &[9, 9]].concat() });
+    }
+
+    #[test]
+    fn the_cap_comes_before_all_else() {
+        assert_eq!(numbers(Call::Spare { cap: 258 }, &[], &[]), 2 * 256);
+        assert_eq!(numbers(Call::Spare { cap: 3 }, &[], &[]), 3 * 256);
+    }
+
+    #[test]
+    fn a_short_area_comes_between_the_reader_and_no_plan() {
+        let loose = sheet_w().first_rule(9).bytes;
+        assert_eq!(numbers(Call::Crew, &loose, &[]), 12 * 256 + 8);
+        let idle = plain(2, 2, 0).word(1, 12, 0).word(2, 12, 0).bytes;
+        assert_eq!(numbers(Call::Crew, &idle, &[0; 15]), 256);
+        assert_eq!(numbers(Call::Crew, &idle, &[0; 16]), 13 * 256);
+    }
+
+    #[test]
+    fn a_large_job_is_not_answered_but_its_short_area_is() {
+        let large = plain(64, 12, 0).bytes;
+        assert_eq!(answer(Call::Crew, &large, &[0; 96]), None);
+        assert_eq!(numbers(Call::Crew, &large, &[0; 95]), 256);
+    }
+}

@@ -1,0 +1,15 @@
+//! The cards of a sheet: their length, their number and their kinds.
+
+use crate::job::{MOST_PEOPLE, MOST_RULES, MOST_STEPS};
+
+/// The bytes of a card.
+pub const CARD: usize = 16;
+
+/// A header, and a card for each person, step and rule.
+pub const MOST_CARDS: usize = 1 + MOST_PEOPLE + MOST_STEPS + MOST_RULES;
+pub const MOST_BYTES: usize = CARD * MOST_CARDS;
+
+pub const HEADER: u8 = 1;
+pub const PERSON: u8 = 2;
+pub const STEP: u8 = 3;
+pub const RULE: u8 = 4;

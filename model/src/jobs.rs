@@ -1,0 +1,144 @@
+//! Random jobs that keep every bound of the paper, and their sheets.
+
+use crate::builder::{lay, lay_at, person, rule, step, Draft};
+use crate::job::{
+    has_limit, Job, Rule, AT_LEAST, AT_MOST, BY_PERSON, BY_SHOP, MOST_PEOPLE, MOST_RULES, MOST_STEPS, SAME,
+};
+use crate::random::Random;
+use std::collections::{HashMap, HashSet};
+
+/// A size up to `most`, mostly small, sometimes the largest.
+fn size(random: &mut Random, least: usize, most: usize) -> usize {
+    match random.below(8) {
+        0 => most,
+        1 => random.within(least, most),
+        _ => random.within(least, most.min(6)),
+    }
+}
+
+/// Different tags, small ones or any.
+fn tags(random: &mut Random, count: usize) -> Vec<u32> {
+    let small = random.once_in(2);
+    let mut met = HashSet::new();
+    let mut tags = vec![];
+    while tags.len() < count {
+        let tag = if small { random.within(1, 200) as u32 } else { random.bits() as u32 };
+        if tag != 0 && met.insert(tag) {
+            tags.push(tag);
+        }
+    }
+    tags
+}
+
+/// The mask of `size` of `steps` steps.
+fn scope(random: &mut Random, steps: usize, size: usize) -> u16 {
+    let chosen = random.order(steps);
+    chosen[..size].iter().map(|s| 1 << (s - 1)).sum()
+}
+
+pub fn any_level(random: &mut Random) -> u8 {
+    random.within(BY_SHOP.into(), BY_PERSON.into()) as u8
+}
+
+/// One of the kinds that have a limit.
+pub fn any_count(random: &mut Random) -> u8 {
+    random.within(AT_MOST.into(), AT_LEAST.into()) as u8
+}
+
+/// A rule of any kind and level over some of the steps, at least two.
+pub fn random_rule(random: &mut Random, steps: usize) -> Rule {
+    let kind = random.within(SAME.into(), AT_LEAST.into()) as u8;
+    let level = any_level(random);
+    if !has_limit(kind) {
+        return rule(kind, level, 0, scope(random, steps, 2));
+    }
+    let wide = random.within(2, steps);
+    rule(kind, level, random.within(1, wide) as u8, scope(random, steps, wide))
+}
+
+/// A job of the given size that keeps every field's bounds where the size does.
+pub fn job_of(random: &mut Random, people: usize, steps: usize, rules: usize) -> Job {
+    let known = steps.min(MOST_STEPS);
+    let mut shops: HashMap<u16, u16> = HashMap::new();
+    let benches = random.within(1, 70);
+    let person_tags = tags(random, people);
+    let people = person_tags
+        .into_iter()
+        .map(|tag| {
+            let bench = random.within(1, benches) as u16;
+            let shop = random.within(1, 5) as u16;
+            let shop = *shops.entry(bench).or_insert(shop);
+            person(tag, shop, bench, random.below(1 << known) as u16)
+        })
+        .collect();
+    let rules = if known < 2 { 0 } else { rules };
+    Job {
+        people,
+        steps: tags(random, steps).into_iter().map(step).collect(),
+        rules: (0..rules).map(|_| random_rule(random, known)).collect(),
+    }
+}
+
+pub fn good_job(random: &mut Random) -> Job {
+    let people = size(random, 1, MOST_PEOPLE);
+    let steps = size(random, 1, MOST_STEPS);
+    let rules = size(random, 0, MOST_RULES);
+    job_of(random, people, steps, rules)
+}
+
+/// A job of which every plan can be tried: few people, classes that several share, permissions tight or loose.
+pub fn small_job(random: &mut Random) -> Job {
+    let steps = random.within(1, 5);
+    let (shops, benches) = (random.within(1, 3), random.within(1, 5));
+    // Each permission is given so many times in four.
+    let ease = random.within(1, 4);
+    let people = random.within(1, 6);
+    let people = tags(random, people)
+        .into_iter()
+        .map(|tag| {
+            let bench = random.below(benches);
+            let permitted = (0..steps).filter(|_| random.below(4) < ease).map(|step| 1 << step).sum();
+            person(tag, 1 + (bench % shops) as u16, 1 + bench as u16, permitted)
+        })
+        .collect();
+    let rules = if steps < 2 { 0 } else { random.below(7) };
+    Job {
+        people,
+        steps: tags(random, steps).into_iter().map(step).collect(),
+        rules: (0..rules).map(|_| random_rule(random, steps)).collect(),
+    }
+}
+
+/// The job's sheet, its cards in some order; now and then in that of the chains.
+pub fn laid(random: &mut Random, job: &Job) -> Draft {
+    if random.once_in(4) {
+        return lay(job);
+    }
+    let cards = job.people.len() + job.steps.len() + job.rules.len();
+    lay_at(job, &random.order(cards))
+}
+
+#[cfg(test)]
+mod tests {
+    use super::*;
+    use crate::plans::{is_small, spare};
+    use crate::reader::read;
+    use std::collections::BTreeSet;
+
+    #[test]
+    fn small_jobs_are_small_and_readable() {
+        let mut random = Random::new(2);
+        for _ in 0..500 {
+            let job = small_job(&mut random);
+            assert!(is_small(&job));
+            assert_eq!(read(&laid(&mut random, &job).bytes), Ok(job));
+        }
+    }
+
+    #[test]
+    fn small_jobs_have_every_spare_count() {
+        let mut random = Random::new(4);
+        let counts: BTreeSet<_> = (0..2_000).map(|_| spare(&small_job(&mut random), 3).map(|s| s.count)).collect();
+        assert_eq!(counts.into_iter().collect::<Vec<_>>(), [None, Some(0), Some(1), Some(2), Some(3)]);
+    }
+}

@@ -1,0 +1,16 @@
+//! What the papers say, in Rust: a model of the card reader, a brute force for both calls, sheets built from jobs, and jobs
+//! by recipe or at random. Nothing here is taken from the library; its calls are bound under the feature `library`.
+
+pub mod answers;
+pub mod builder;
+pub mod card;
+pub mod garble;
+pub mod job;
+pub mod jobs;
+#[cfg(feature = "library")]
+pub mod library;
+pub mod plans;
+pub mod random;
+pub mod reader;
+pub mod recipe;
+pub mod refusal;

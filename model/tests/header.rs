@@ -1,0 +1,52 @@
+//! The sizes and refusals of the C header are the model's.
+
+use model::answers::{MOST_CAP, MOST_CREW_BYTES, SPARE_BYTES, STEP_BYTES};
+use model::card::{CARD, MOST_BYTES, MOST_CARDS};
+use model::job::{MOST_PEOPLE, MOST_RULES, MOST_STEPS};
+use model::refusal::*;
+
+const TEXT: &str = include_str!("../../include/fulmarinvar.h");
+
+/// The number that stands behind a name.
+fn stated(name: &str) -> usize {
+    let full = format!("FULMARINVAR_{name}");
+    let mut words = TEXT.split_whitespace().skip_while(|word| **word != full).skip(1);
+    let number = words.find(|word| *word != "=").unwrap_or_else(|| panic!("the header has no {full}"));
+    number.trim_end_matches(',').parse().unwrap_or_else(|_| panic!("{full} is {number}"))
+}
+
+#[test]
+fn sizes_are_the_headers() {
+    assert_eq!(stated("CARD_BYTES"), CARD);
+    assert_eq!(stated("MOST_CARDS"), MOST_CARDS);
+    assert_eq!(stated("MOST_SHEET_BYTES"), MOST_BYTES);
+    assert_eq!(stated("MOST_PEOPLE"), MOST_PEOPLE);
+    assert_eq!(stated("MOST_STEPS"), MOST_STEPS);
+    assert_eq!(stated("MOST_RULES"), MOST_RULES);
+    assert_eq!(stated("STEP_BYTES"), STEP_BYTES);
+    assert_eq!(stated("MOST_CREW_BYTES"), MOST_CREW_BYTES);
+    assert_eq!(stated("SPARE_BYTES"), SPARE_BYTES);
+    assert_eq!(stated("MOST_CAP"), MOST_CAP as usize);
+}
+
+#[test]
+fn refusals_are_the_headers() {
+    let named = [
+        ("SHORT_ANSWER", SHORT_ANSWER),
+        ("CAP_TOO_HIGH", CAP_TOO_HIGH),
+        ("BAD_LENGTH", BAD_LENGTH),
+        ("BAD_HEADER", BAD_HEADER),
+        ("BAD_INDEX", BAD_INDEX),
+        ("CARD_AGAIN", CARD_AGAIN),
+        ("WRONG_KIND", WRONG_KIND),
+        ("BAD_FIELD", BAD_FIELD),
+        ("NONE_OR_TOO_MANY", NONE_OR_TOO_MANY),
+        ("TAG_TWICE", TAG_TWICE),
+        ("BENCH_IN_TWO_SHOPS", BENCH_IN_TWO_SHOPS),
+        ("LOOSE_CARD", LOOSE_CARD),
+        ("NO_PLAN", NO_PLAN),
+    ];
+    for (name, number) in named {
+        assert_eq!(stated(name), number as usize, "{name}");
+    }
+}
