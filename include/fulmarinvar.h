@@ -49,7 +49,8 @@ enum fulmarinvar_refusal {
                                             card that is not zero; that card */
     FULMARINVAR_NONE_OR_TOO_MANY = 9,    /* no people or no steps: card 0; more than 64 people, 12 steps or 64 rules:
                                             the first card too many */
-    FULMARINVAR_TAG_TWICE = 10,          /* a tag on two people or on two steps; the later card along the chain */
+    FULMARINVAR_TAG_TWICE = 10,          /* a tag on two people or on two steps; the first card along the
+                                            chain whose tag stood earlier on it */
     FULMARINVAR_BENCH_IN_TWO_SHOPS = 11, /* the first person whose bench stood earlier with another shop; that card */
     FULMARINVAR_LOOSE_CARD = 12,         /* a card on no chain; the lowest */
 

@@ -21,7 +21,7 @@ use write::write_crew;
 pub mod write;
 
 // The first valid plan of a job.
-pub fn plan_job(job: Job, people: usize, steps: usize, rules: usize) -> Found
+fn plan_job(job: Job, people: usize, steps: usize, rules: usize) -> Found
     requires { ⌜ ReadableJob people steps rules job ⌝ }
     ensures { λ r. ⌜ firstPlan (instanceOf people steps rules job) (mayOf job) ≡ answer steps (r .found) (r .plan) ⌝ }
 {

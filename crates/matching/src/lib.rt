@@ -1,5 +1,6 @@
 // Bipartite matching by augmenting paths: groups, numbered below 12, are given classes, numbered
 // below 64, along edges and no class twice, or it is known that this cannot be done.
+use bits::set::ALL;
 use bits::set::lowest;
 use bits::set::without;
 use bits::small;
@@ -11,9 +12,6 @@ ghost use Rattle.matching.specs.State.{Holder, Ready, Crowded, Placing};
 
 // The class of a group that has none.
 const NOWHERE: u8 = 64;
-
-// All classes.
-const ALL: u64 = 0xffff_ffff_ffff_ffff;
 
 // An answer: whether every group has got a class, and then the class of each, 64 for a group that was not asked for.
 pub struct Cover {

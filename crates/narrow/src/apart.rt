@@ -1,6 +1,7 @@
 // Open steps of a rule that cannot share a class.
 use super::mates::mates;
 use bits::set;
+use bits::set::ALL;
 use bits::small;
 ghost use mathlib.Core.Path.{_≡_};
 ghost use Prim.Native.Nat.{_<_, _≤_};
@@ -9,9 +10,6 @@ ghost use Rattle.pattern.specs.Tables.{classIn};
 ghost use Rattle.narrow.specs.Domains.{AtLevel};
 ghost use Rattle.narrow.specs.Fixing.{Reaching};
 ghost use Rattle.narrow.specs.Parting.{Apart};
-
-// All people.
-const ALL: u64 = 0xffff_ffff_ffff_ffff;
 
 // Steps whose domains reach no class in common, nor one of those used: each has a class of its own in
 // every plan. And the people of the classes used and of those that they reach.

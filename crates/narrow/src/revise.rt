@@ -5,6 +5,7 @@ use super::apart::reach;
 use super::fixed::Forced;
 use super::fixed::fixed;
 use super::spread::spread;
+use bits::set::ALL;
 use bits::small;
 use pattern::Size;
 use pattern::rule;
@@ -21,9 +22,6 @@ ghost use Rattle.narrow.specs.Domains.{AtLevel, Revised};
 ghost use Rattle.narrow.specs.Narrowing.{Common, Spared, Restricted, Open, Allowed};
 ghost use Rattle.narrow.specs.Parting.{Limited};
 ghost use Rattle.narrow.specs.Spreading.{Short};
-
-// All people.
-const ALL: u64 = 0xffff_ffff_ffff_ffff;
 
 // Whether a rule can no longer be met, and the steps whose domains are smaller now.
 pub struct Revision {

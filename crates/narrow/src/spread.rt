@@ -1,6 +1,7 @@
 // How many classes the open steps of a rule can add.
 use super::mates::mates;
 use bits::set;
+use bits::set::ALL;
 use bits::small;
 ghost use mathlib.Core.Path.{_≡_};
 ghost use Prim.Native.Nat.{_<_, _≤_};
@@ -8,9 +9,6 @@ ghost use lib.ListN.{length};
 ghost use Rattle.pattern.specs.Tables.{classIn};
 ghost use Rattle.narrow.specs.Domains.{AtLevel};
 ghost use Rattle.narrow.specs.Spreading.{Anybody, Firsts, Spread};
-
-// All people.
-const ALL: u64 = 0xffff_ffff_ffff_ffff;
 
 // Everybody of the domains of these steps.
 fn anybody(steps: u16, dom: &[u64; 12]) -> u64

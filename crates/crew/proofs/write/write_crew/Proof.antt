@@ -42,7 +42,9 @@ mul-put-long-4 : tie.Need-mul-put-long-4 Inv-loop μ-loop
 mul-put-long-4 c = omega (arith, c .before .before .before .before .before .before .before .before .before .before .pre .5 (c .before .before .before .before .before .before .before .before .loop .s) (c .before .before .before .before .before .before .before .loop-test .taken))
 
 element-copy-out-put-long-2 : tie.Need-element-copy-out-put-long-2 Inv-loop μ-loop
-element-copy-out-put-long-2 c = c .before .before .before .before .before .before .before .before .before .before .pre .5 (c .before .before .before .before .before .before .before .before .loop .s) (c .before .before .before .before .before .before .before .loop-test .taken)
+element-copy-out-put-long-2 c =
+    let s = c .before .before .before .before .before .before .before .before .before .before in
+    omega (arith, s .pre .5 (c .before .before .before .before .before .before .before .before .loop .s) (c .before .before .before .before .before .before .before .loop-test .taken))
 
 put-long-requires-2 : tie.Need-put-long-requires-2 Inv-loop μ-loop
 put-long-requires-2 c κs = omega (arith, writing-length _ _ _ _ _ _ _ (c .before .before .before .before .before .before .before .before .before .loop .inv) (c .before .before .before .before .before .before .before .before .before .before .before .pre .4), c .before .before .before .before .put-long .kept .0)
