@@ -1,11 +1,11 @@
 -- Bytes put into a buffer one number after the other. Assumes nothing.
-use mathlib.Core.List.{List, [], _∷_, _++_, append-assoc, append-nil}
+use mathlib.Core.List.{List, [], _∷_, _++_, append-assoc}
 use mathlib.Core.Path.{_≡_, refl, sym, _∙_, ap, ap₂}
-use Prim.Native.Nat.{ℕ, zero, suc, _+_, _*_, _<_, _≤_}
+use Prim.Native.Nat.{ℕ, _+_, _*_, _≤_}
 use native.Mathlib.Omega.{arith}
-use native.Mathlib.Numerals.{add-one, towards-suc}
-use lib.ListN.{length, getD, take, drop, set, length-append, length-take, length-drop}
-use lib.Seq.{sets, sets-eq, take-at, drop-at, drop-drop, drop-append-add}
+use native.Mathlib.Numerals.{towards-suc}
+use lib.ListN.{length, drop, set, length-append}
+use lib.Seq.{sets, sets-eq, take-at, drop-drop, drop-append-add}
 use Rattle.answer.specs.Bytes.{longBytes, putAt, written}
 
 -- four stores put four bytes

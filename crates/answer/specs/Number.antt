@@ -13,6 +13,6 @@ numberOf (Readable people steps rules) = 0
 numberOf (Refused f c) = refusalNumber f c
 
 -- the refusal and the card of a reading are small enough for its number
-abbrev pub Numbered : Reading → Type 0
-Numbered (Readable people steps rules) = Unit {0}
-Numbered (Refused f c) = (f < 256) × (c < 256)
+abbrev pub Returnable : Reading → Type 0
+Returnable (Readable people steps rules) = Unit {0}
+Returnable (Refused f c) = (f < 256) × (c < 256)

@@ -1,20 +1,22 @@
 // What both calls return and write: the number, and the bytes of numbers.
 ghost use mathlib.Core.Path.{_≡_};
-ghost use Rattle.answer.specs.Number.{numberOf, Numbered};
+ghost use Prim.Native.Nat.{_<_};
+ghost use Rattle.answer.specs.Number.{refusalNumber, numberOf, Returnable};
 use sheet::Reading;
 
 pub mod bytes;
 
-// The refusals of a call, as returned: refusal × 256, card 0.
-pub const SHORT: u32 = 256;
+// The number that a call returns for a refusal with its card.
+pub fn returned(refusal: u32, card: usize) -> u32
+    requires { ⌜ (refusal < 256) × (card < 256) ⌝ }
+    ensures { λ r. ⌜ r ≡ refusalNumber refusal card ⌝ }
+{
+    refusal * 256 + card as u32
+}
 
-pub const CAP_REFUSED: u32 = 512;
-
-pub const NO_PLAN: u32 = 3328;
-
-// The number that a call returns for a reading: 0, or refusal × 256 + card.
+// The number that a call returns for a reading: 0, or that of its refusal.
 pub fn number(reading: Reading) -> u32
-    requires { ⌜ Numbered reading ⌝ }
+    requires { ⌜ Returnable reading ⌝ }
     ensures { λ r. ⌜ r ≡ numberOf reading ⌝ }
 {
     match reading {
@@ -23,6 +25,6 @@ pub fn number(reading: Reading) -> u32
             steps: _,
             rules: _,
         } => 0,
-        Reading::Refused { refusal, card } => refusal * 256 + card as u32,
+        Reading::Refused { refusal, card } => returned(refusal, card),
     }
 }

@@ -5,7 +5,7 @@ use mathlib.Core.Path.{_≡_}
 use Prim.Native.Nat.{ℕ, _*_, _%_, _^_, _<_}
 use lib.ListN.{length, set}
 use Rattle.bits.specs.Word.{hasBit}
-use Rattle.workflow.specs.Problem.{Job, May, Plan, Met, Valid, Satisfiable}
+use Rattle.workflow.specs.Problem.{Job, Rule, May, Plan, Met, Valid, Satisfiable}
 use Rattle.workflow.specs.First.{Earlier}
 use Rattle.pattern.specs.Tables.{mayIn, planIn}
 use Rattle.narrow.specs.Domains.{Takes}
@@ -18,11 +18,11 @@ Judged j n dom Found = (i : ℕ) → i < n → (π : Plan) → Takes (j .steps) 
 Judged j n dom Unsatisfiable = Satisfiable j (mayIn dom) → ⊥
 Judged j n dom Tired = Unit {0}
 
--- what is known of rule i
-unfoldable pub JudgedRule : Job → ℕ → List ℕ → Tried → Type 0
-JudgedRule j i dom Found = (π : Plan) → Takes (j .steps) (j .people) dom π → Met j (j .rule i) π
-JudgedRule j i dom Unsatisfiable = (π : Plan) → Takes (j .steps) (j .people) dom π → Met j (j .rule i) π → ⊥
-JudgedRule j i dom Tired = Unit {0}
+-- what is known of one rule
+unfoldable pub JudgedRule : Job → Rule → List ℕ → Tried → Type 0
+JudgedRule j r dom Found = (π : Plan) → Takes (j .steps) (j .people) dom π → Met j r π
+JudgedRule j r dom Unsatisfiable = (π : Plan) → Takes (j .steps) (j .people) dom π → Met j r π → ⊥
+JudgedRule j r dom Tired = Unit {0}
 
 -- step s is left to person p alone
 abbrev pub pinned : List ℕ → ℕ → ℕ → List ℕ
@@ -39,7 +39,7 @@ pub record Others (steps rest s : ℕ) (dom : List ℕ) : Type 0 where
   pub one : (t p p′ : ℕ) → t < steps → (t ≡ s → ⊥) → hasBit rest t ≡ false → mayIn dom t p ≡ true → mayIn dom t p′ ≡ true → p ≡ p′
 
 -- the plan takes the first of each domain of the steps before n
-pub record Taken (people n : ℕ) (dom plan : List ℕ) : Type 0 where
+pub record TakesFirst (people n : ℕ) (dom plan : List ℕ) : Type 0 where
   pub sized : length plan ≡ 12
   pub within : (s : ℕ) → s < n → planIn plan s < people
   pub among : (s : ℕ) → s < n → mayIn dom s (planIn plan s) ≡ true
@@ -54,8 +54,3 @@ unfoldable pub Trial : Bool → Job → List ℕ → List ℕ → Tried → Type
 Trial ordered j dom plan Found = Discovery ordered j (mayIn dom) (planIn plan)
 Trial ordered j dom plan Unsatisfiable = Satisfiable j (mayIn dom) → ⊥
 Trial ordered j dom plan Tired = Unit {0}
-
--- the same, if so it is said
-abbrev pub TakenIf : Bool → ℕ → ℕ → List ℕ → List ℕ → Type 0
-TakenIf true people n dom plan = Taken people n dom plan
-TakenIf false people n dom plan = Unit {0}

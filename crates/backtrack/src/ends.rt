@@ -1,39 +1,35 @@
 // The end of a search: domains of one person each are a plan, and the rules are tested.
 use super::Tried;
 use bits::set::lowest;
+use bits::sizes::Crowds;
+use bits::sizes::Domains;
+use bits::sizes::Plan;
+use bits::sizes::Rules;
+use bits::small;
 use narrow::fixed::fixed;
 use pattern::Size;
 use pattern::rule;
 ghost use mathlib.Core.Bool.{true};
 ghost use mathlib.Core.Path.{_≡_};
-ghost use Prim.Native.Nat.{_*_, _<_, _≤_};
+ghost use Prim.Native.Nat.{_<_, _≤_};
 ghost use lib.ListN.{length};
+ghost use Rattle.pattern.specs.Rule.{levelIn, scopeIn, unpacked};
 ghost use Rattle.pattern.specs.Tables.{jobIn};
 ghost use Rattle.pattern.specs.Given.{Given};
-ghost use Rattle.levels.specs.Tabled.{Gathered};
-ghost use Rattle.backtrack.specs.Trial.{Judged, JudgedRule, Alone, TakenIf, Trial};
+ghost use Rattle.narrow.specs.Domains.{OneLevel, ForJobs};
+ghost use Rattle.backtrack.specs.Trial.{Judged, JudgedRule, Alone, TakesFirst, Trial};
 
-// Whether rule `i` is met by every plan of the domains, or by none; where they leave its count open,
-// nothing is said.
-fn judge(
-    size: Size,
-    class: &[u8; 192],
-    crowd: &[u64; 192],
-    rule: &[u32; 64],
-    i: usize,
-    dom: &[u64; 12],
-) -> Tried
-    requires { ⌜ Given size (now class) (now rule) × Gathered (size .people) (size .levels) (now class) (now crowd)
-        × (i < size .rules) × (length (now dom) ≡ 12) ⌝ }
-    ensures { λ r. ⌜ JudgedRule (jobIn size (now (class .entry)) (now (rule .entry)))
-        i (now (dom .entry)) r ⌝ }
+// Whether a rule is met by every plan of the domains, or by none; where they leave its count open, nothing is
+// said.
+fn judge(crowd: &Crowds, r: u32, dom: &Domains) -> Tried
+    requires { ⌜ OneLevel (now crowd) (levelIn r) × (scopeIn r < 4096) × (length (now dom) ≡ 12) ⌝ }
+    ensures { λ a. ⌜ ForJobs (now (crowd .entry)) r (λ j. JudgedRule j (unpacked r) (now (dom .entry)) a) ⌝ }
 {
-    let r = rule[i];
-    let all = fixed(size, class, crowd, rule::level(r), rule::scope(r), dom);
+    let all = fixed(crowd, rule::level(r), rule::scope(r), dom);
     if all.wide != 0 {
         return Tried::Tired;
     }
-    let groups = u16::count_ones(all.heads) as usize;
+    let groups = small::size(all.heads);
     if groups > rule::most(r) {
         return Tried::Unsatisfiable;
     }
@@ -44,21 +40,13 @@ fn judge(
 }
 
 // The same of all rules.
-fn judge_all(
-    size: Size,
-    class: &[u8; 192],
-    crowd: &[u64; 192],
-    rule: &[u32; 64],
-    dom: &[u64; 12],
-) -> Tried
-    requires { ⌜ Given size (now class) (now rule) × Gathered (size .people) (size .levels) (now class) (now crowd)
-        × (length (now dom) ≡ 12) ⌝ }
-    ensures { λ r. ⌜ Judged (jobIn size (now (class .entry)) (now (rule .entry)))
-        (size .rules) (now (dom .entry)) r ⌝ }
+fn judge_all(size: Size, crowd: &Crowds, rule: &Rules, dom: &Domains) -> Tried
+    requires { ⌜ Given size (now crowd) (now rule) × (length (now dom) ≡ 12) ⌝ }
+    ensures { λ r. ⌜ Judged (jobIn size (now (crowd .entry)) (now (rule .entry))) (size .rules) (now (dom .entry)) r ⌝ }
 {
     let rules = size.rules;
     for i in 0..rules {
-        let one = judge(size, class, crowd, rule, i, dom);
+        let one = judge(crowd, rule[i], dom);
         match one {
             Tried::Found => {
                 continue;
@@ -75,9 +63,9 @@ fn judge_all(
 }
 
 // Gives each step the first of its domain, where that is one of the people.
-fn take(steps: usize, people: usize, dom: &[u64; 12], plan: &mut [u8; 12]) -> bool
+fn take_first(steps: usize, people: usize, dom: &Domains, plan: &mut Plan) -> bool
     requires { ⌜ (steps ≤ 12) × (length (now dom) ≡ 12) × (length (now plan) ≡ 12) ⌝ }
-    ensures { λ r. ⌜ (length (now (plan .exit)) ≡ 12) × TakenIf r people steps (now (dom .entry)) (now (plan .exit)) ⌝ }
+    ensures { λ r. ⌜ (length (now (plan .exit)) ≡ 12) × (r ≡ true → TakesFirst people steps (now (dom .entry)) (now (plan .exit))) ⌝ }
 {
     for s in 0..steps {
         let domain = dom[s];
@@ -94,21 +82,13 @@ fn take(steps: usize, people: usize, dom: &[u64; 12], plan: &mut [u8; 12]) -> bo
 }
 
 // The plan of the domains, which have one person for each step.
-pub fn finish(
-    size: Size,
-    class: &[u8; 192],
-    crowd: &[u64; 192],
-    rule: &[u32; 64],
-    dom: &[u64; 12],
-    plan: &mut [u8; 12],
-) -> Tried
-    requires { ⌜ Given size (now class) (now rule) × Gathered (size .people) (size .levels) (now class) (now crowd)
-        × (length (now dom) ≡ 12) × (length (now plan) ≡ 12) × Alone (size .steps) 0 (now dom) ⌝ }
-    ensures { λ r. ⌜ Trial true (jobIn size (now (class .entry)) (now (rule .entry)))
-        (now (dom .entry)) (now (plan .exit)) r × (length (now (plan .exit)) ≡ 12) ⌝ }
+pub fn finish(size: Size, crowd: &Crowds, rule: &Rules, dom: &Domains, plan: &mut Plan) -> Tried
+    requires { ⌜ Given size (now crowd) (now rule) × (length (now dom) ≡ 12) × (length (now plan) ≡ 12) × Alone (size .steps) 0 (now dom) ⌝ }
+    ensures { λ r. ⌜ Trial true (jobIn size (now (crowd .entry)) (now (rule .entry))) (now (dom .entry)) (now (plan .exit)) r
+        × (length (now (plan .exit)) ≡ 12) ⌝ }
 {
-    if !take(size.steps, size.people, dom, plan) {
+    if !take_first(size.steps, size.people, dom, plan) {
         return Tried::Tired;
     }
-    judge_all(size, class, crowd, rule, dom)
+    judge_all(size, crowd, rule, dom)
 }

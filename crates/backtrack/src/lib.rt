@@ -5,6 +5,11 @@ mod ends;
 mod order;
 
 use bits::set;
+use bits::sizes::Crowds;
+use bits::sizes::Domains;
+use bits::sizes::Naming;
+use bits::sizes::Plan;
+use bits::sizes::Rules;
 use bits::small;
 use ends::finish;
 use narrow::propagate::propagate;
@@ -35,30 +40,28 @@ struct Choice {
 // A plan of the domains with the choice made; the other steps have one person at most, but for those left.
 fn branch(
     size: Size,
-    class: &[u8; 192],
-    crowd: &[u64; 192],
-    rule: &[u32; 64],
-    of: &[u64; 12],
+    crowd: &Crowds,
+    rule: &Rules,
+    of: &Naming,
     ordered: bool,
     choice: Choice,
-    dom: &[u64; 12],
+    dom: &Domains,
     effort: &mut u32,
-    plan: &mut [u8; 12],
+    plan: &mut Plan,
 ) -> Tried
-    requires { ⌜ Tabled size (now class) (now crowd) (now rule) (now of) × (length (now dom) ≡ 12) × (length (now plan) ≡ 12)
+    requires { ⌜ Tabled size (now crowd) (now rule) (now of) × (length (now dom) ≡ 12) × (length (now plan) ≡ 12)
         × Others (size .steps) (choice .rest) (choice .step) (now dom) × (choice .step < size .steps) × (choice .person < 64) ⌝ }
-    ensures { λ r. ⌜ Trial ordered (jobIn size (now (class .entry)) (now (rule .entry)))
+    ensures { λ r. ⌜ Trial ordered (jobIn size (now (crowd .entry)) (now (rule .entry)))
         (pinned (now (dom .entry)) (choice .step) (choice .person)) (now (plan .exit)) r × (length (now (plan .exit)) ≡ 12) ⌝ }
 {
     let s = choice.step;
     let mut next = *dom;
     next[s] = 1 << choice.person;
-    if !propagate(size, class, crowd, rule, of, of[s], &mut next, effort) {
+    if !propagate(size, crowd, rule, of, of[s], &mut next, effort) {
         return Tried::Unsatisfiable;
     }
     extend(
         size,
-        class,
         crowd,
         rule,
         of,
@@ -73,24 +76,23 @@ fn branch(
 // A plan of the domains, where the steps but those of `rest` have one person at most.
 fn extend(
     size: Size,
-    class: &[u8; 192],
-    crowd: &[u64; 192],
-    rule: &[u32; 64],
-    of: &[u64; 12],
+    crowd: &Crowds,
+    rule: &Rules,
+    of: &Naming,
     ordered: bool,
     rest: u16,
-    dom: &[u64; 12],
+    dom: &Domains,
     effort: &mut u32,
-    plan: &mut [u8; 12],
+    plan: &mut Plan,
 ) -> Tried
-    requires { ⌜ Tabled size (now class) (now crowd) (now rule) (now of) × (length (now dom) ≡ 12) × (length (now plan) ≡ 12)
+    requires { ⌜ Tabled size (now crowd) (now rule) (now of) × (length (now dom) ≡ 12) × (length (now plan) ≡ 12)
         × Alone (size .steps) rest (now dom) ⌝ }
-    ensures { λ r. ⌜ Trial ordered (jobIn size (now (class .entry)) (now (rule .entry)))
+    ensures { λ r. ⌜ Trial ordered (jobIn size (now (crowd .entry)) (now (rule .entry)))
         (now (dom .entry)) (now (plan .exit)) r × (length (now (plan .exit)) ≡ 12) ⌝ }
 {
     let wide = several(rest, dom);
     if wide == 0 {
-        return finish(size, class, crowd, rule, dom, plan);
+        return finish(size, crowd, rule, dom, plan);
     }
     let s = next_step(ordered, of, dom, wide);
     let others = small::without(wide, s);
@@ -100,25 +102,14 @@ fn extend(
             return Tried::Tired;
         }
         *effort = *effort - 1;
-        let p = set::lowest(left);
-        left = set::without(left, p);
+        let next = set::take(left);
+        left = next.rest;
         let choice = Choice {
             step: s,
-            person: p,
+            person: next.first,
             rest: others,
         };
-        let tried = branch(
-            size,
-            class,
-            crowd,
-            rule,
-            of,
-            ordered,
-            choice,
-            dom,
-            effort,
-            plan,
-        );
+        let tried = branch(size, crowd, rule, of, ordered, choice, dom, effort, plan);
         match tried {
             Tried::Found => {
                 return Tried::Found;
@@ -135,38 +126,26 @@ fn extend(
 }
 
 // A plan of a job, the first one if `ordered`, where it is found with this effort.
-pub fn attempt(
+pub fn attempt<'a>(
     size: Size,
-    class: &[u8; 192],
-    crowd: &[u64; 192],
-    rule: &[u32; 64],
-    of: &[u64; 12],
-    may: &[u64; 12],
+    crowd: &'a Crowds,
+    rule: &'a Rules,
+    of: &'a Naming,
+    may: &Domains,
     ordered: bool,
     effort: u32,
-    plan: &mut [u8; 12],
+    plan: &mut Plan,
 ) -> Tried
-    requires { ⌜ Tabled size (now class) (now crowd) (now rule) (now of) × (length (now may) ≡ 12) × (length (now plan) ≡ 12) ⌝ }
-    ensures { λ r. ⌜ Trial ordered (jobIn size (now (class .entry)) (now (rule .entry)))
-        (now (may .entry)) (now (plan .exit)) r × (length (now (plan .exit)) ≡ 12) ⌝ }
+    requires { ⌜ Tabled size (now crowd) (now rule) (now of) × (length (now may) ≡ 12) × (length (now plan) ≡ 12) ⌝ }
+    ensures { λ r. ⌜ Trial ordered (jobIn size (now (crowd .entry)) (now (rule .entry))) (now (may .entry)) (now (plan .exit)) r
+        × (length (now (plan .exit)) ≡ 12) ⌝ }
 {
     let all = set::below(size.rules);
     let mut dom = *may;
     let mut rest = effort;
-    if !propagate(size, class, crowd, rule, of, all, &mut dom, &mut rest) {
+    if !propagate(size, crowd, rule, of, all, &mut dom, &mut rest) {
         return Tried::Unsatisfiable;
     }
     let steps = small::below(size.steps);
-    extend(
-        size,
-        class,
-        crowd,
-        rule,
-        of,
-        ordered,
-        steps,
-        &dom,
-        &mut rest,
-        plan,
-    )
+    extend(size, crowd, rule, of, ordered, steps, &dom, &mut rest, plan)
 }

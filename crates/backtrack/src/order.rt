@@ -1,5 +1,8 @@
 // Which step comes next in a search over people.
 use bits::set;
+use bits::sizes::Domains;
+use bits::sizes::MOST_STEPS;
+use bits::sizes::Naming;
 use bits::small;
 ghost use mathlib.Core.Bool.{true};
 ghost use mathlib.Core.Path.{_≡_};
@@ -16,20 +19,21 @@ fn single(domain: u64) -> bool
     if domain == 0 {
         return true;
     }
-    let p = set::lowest(domain);
-    set::without(domain, p) == 0
+    let next = set::take(domain);
+    next.rest == 0
 }
 
 // Those of some steps that have several people.
-pub fn several(steps: u16, dom: &[u64; 12]) -> u16
+pub fn several(steps: u16, dom: &Domains) -> u16
     requires { ⌜ (steps < 4096) × (length (now dom) ≡ 12) ⌝ }
     ensures { λ r. ⌜ Several steps (now (dom .entry)) r ⌝ }
 {
     let mut found = steps;
     let mut left = steps;
     while left != 0 {
-        let s = small::lowest(left);
-        left = small::without(left, s);
+        let next = small::take(left);
+        left = next.rest;
+        let s = next.first;
         if !single(dom[s]) {
             continue;
         }
@@ -44,15 +48,16 @@ fn key(domain: u64, rules: u64) -> u64 {
 }
 
 // The keys of some steps.
-fn keys(of: &[u64; 12], dom: &[u64; 12], steps: u16) -> [u64; 12]
-    requires { ⌜ (steps < 4096) × (length (now of) ≡ 12) × (length (now dom) ≡ 12) ⌝ }
+fn keys(of: &Naming, dom: &Domains, steps: u16) -> [u64; MOST_STEPS]
+    requires { ⌜ (length (now dom) ≡ 12) × (length (now of) ≡ 12) × (steps < 4096) ⌝ }
     ensures { λ r. ⌜ length r ≡ 12 ⌝ }
 {
-    let mut all = [0u64; 12];
+    let mut all = [0u64; MOST_STEPS];
     let mut left = steps;
     while left != 0 {
-        let s = small::lowest(left);
-        left = small::without(left, s);
+        let next = small::take(left);
+        left = next.rest;
+        let s = next.first;
         all[s] = key(dom[s], of[s]);
     }
     all
@@ -60,7 +65,7 @@ fn keys(of: &[u64; 12], dom: &[u64; 12], steps: u16) -> [u64; 12]
 
 // The step that comes next: in order the first, and else one with few people. No promise rests on the
 // second.
-pub fn next_step(ordered: bool, of: &[u64; 12], dom: &[u64; 12], wide: u16) -> usize
+pub fn next_step(ordered: bool, of: &Naming, dom: &Domains, wide: u16) -> usize
     requires { ⌜ (wide < 4096) × (wide ≡ 0 → ⊥) × (length (now of) ≡ 12) × (length (now dom) ≡ 12) ⌝ }
     ensures { λ r. ⌜ (r < 12) × (hasBit wide r ≡ true) × (ordered ≡ true → Lowest wide r) ⌝ }
 {

@@ -5,3 +5,5 @@ pub mod SetLaws
 pub mod Scan
 pub mod Says
 pub mod Masks
+pub mod Member
+pub mod SlotLaws

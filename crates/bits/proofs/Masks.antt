@@ -13,11 +13,12 @@ use lib.Pow.{pow-pos, shl-exact}
 use borrow.Author.Tests.{eqb-true, eqb-false}
 use Rattle.bits.specs.Below.{count}
 use Rattle.bits.specs.Word.{hasBit}
-use Rattle.bits.specs.Set.{unlike, Added, Removed, Lowest, Mask, Sifted, LeastKey}
+use Rattle.bits.specs.Set.{unlike, Added, Removed, Lowest, FirstAndRest, Mask, Sifted, LeastKey}
 use Rattle.bits.proofs.Below.{by-cases, true-false}
 use Rattle.bits.proofs.Counting.{and-of, is-false, count-false}
 use Rattle.bits.proofs.Ones.{ones-bits}
-use Rattle.bits.proofs.SetLaws.{and-bit-left, xor-bit, full-has, full-bit, has-below, part-le, trailing-lowest, empty-lacks, zero-empty, added-has, added-other, removed-other, removed-was, removed-differs, removed-less}
+use Rattle.bits.proofs.SetLaws.{and-bit-left, xor-bit, full-has, full-bit, has-below, part-le, trailing-lowest, empty-lacks, zero-empty, added-has}
+use Rattle.bits.proofs.SetLaws.{added-other, removed-other, removed-was, removed-differs, removed-less}
 
 pub or-cases : {P : Type 0} (a b : Bool) → a || b ≡ true → (a ≡ true → P) → (b ≡ true → P) → P
 or-cases true b h f g = f refl
@@ -56,19 +57,28 @@ lt-pow (suc n) = let h : n < 2 ^ n = lt-pow n in let e : 2 ^ suc n ≡ 2 ^ n * 2
 pub some-bit : (x : ℕ) → (x ≡ 0 → ⊥) → (j : ℕ) × (hasBit x j ≡ true)
 some-bit x h = (trailingZeros x x, trailing-lowest x x (lt-pow x) h .has)
 
--- a part of what is left without the lowest is less: the measure of a loop over a set
-pub part-less : (left p rest other : ℕ) → Lowest left p → Removed left p rest → bitAnd rest other < left
-part-less left p rest other low gone =
-    let a : bitAnd rest other ≤ rest = part-le (bitAnd rest other) rest (and-bit-left rest other) in
-    let b : rest < left = removed-less (low .has) gone in
-    omega arith
+-- ---- the lowest element taken out
 
--- the lowest of a set of numbers below 12
-pub lowest-below : {left s : ℕ} → left < 4096 → Lowest left s → s < 12
-lowest-below {left} {s} l low = has-below 12 left s l (low .has)
+pub first-and-rest : {m i r : ℕ} → Lowest m i → Removed m i r → FirstAndRest m i r
+first-and-rest {m} {i} low gone =
+    record { lowest = low; removed = gone; less = removed-less (low .has) gone; below = λ n l. has-below n m i l (low .has) }
 
-pub lowest-less : {left s rest : ℕ} → Lowest left s → Removed left s rest → rest < left
-lowest-less low gone = removed-less (low .has) gone
+module _ {m i r : ℕ} (t : FirstAndRest m i r) where
+  -- the elements left were there
+  pub taken-was : (j : ℕ) → hasBit r j ≡ true → hasBit m j ≡ true
+  taken-was j h = removed-was (t .removed) j h
+
+  -- a set of numbers below n stays one
+  pub taken-small : (n : ℕ) → m < 2 ^ n → r < 2 ^ n
+  taken-small n l = omega (arith, t .less)
+
+  -- the element taken is one of a set that m is a part of
+  pub taken-below : (n all : ℕ) → all < 2 ^ n → ((j : ℕ) → hasBit m j ≡ true → hasBit all j ≡ true) → i < n
+  taken-below n all l part = has-below n all i l (part i (t .lowest .has))
+
+  -- a part of what is left is less: the measure of a loop that leaves out more
+  pub taken-part-less : (other : ℕ) → bitAnd r other < m
+  taken-part-less other = let a : bitAnd r other ≤ r = part-le (bitAnd r other) r (and-bit-left r other) in omega (arith, t .less)
 
 count-cut : (n k : ℕ) (f : ℕ → Bool) → ((s : ℕ) → f s ≡ true → s < n) → count (k + n) f ≡ count n f
 count-cut n zero f h = let e : 0 + n ≡ n = omega arith in ap (λ (x : ℕ). count x f) e
@@ -101,8 +111,10 @@ sifted-none all test =
     }
 
 module _ {all : ℕ} {test : ℕ → Bool} {rest r i rest′ : ℕ} where
-  pub sifted-skip : Sifted all test rest r → Removed rest i rest′ → hasBit rest i ≡ true → test i ≡ false → Sifted all test rest′ r
-  sifted-skip w gone has fails =
+  pub sifted-skip : Sifted all test rest r → FirstAndRest rest i rest′ → test i ≡ false → Sifted all test rest′ r
+  sifted-skip w t fails =
+      let gone = t .removed in
+      let has = t .lowest .has in
       record {
         part = λ k h. w .part k (removed-was gone k h);
         done = λ k h.
@@ -114,8 +126,10 @@ module _ {all : ℕ} {test : ℕ → Bool} {rest r i rest′ : ℕ} where
         left = λ k h. w .left k (removed-was gone k h);
       }
 
-  pub sifted-take : {r′ : ℕ} → Sifted all test rest r → Removed rest i rest′ → hasBit rest i ≡ true → test i ≡ true → Added r i r′ → Sifted all test rest′ r′
-  sifted-take {r′} w gone has holds more =
+  pub sifted-take : {r′ : ℕ} → Sifted all test rest r → FirstAndRest rest i rest′ → test i ≡ true → Added r i r′ → Sifted all test rest′ r′
+  sifted-take {r′} w t holds more =
+      let gone = t .removed in
+      let has = t .lowest .has in
       record {
         part = λ k h. w .part k (removed-was gone k h);
         done = λ k h.
@@ -142,42 +156,38 @@ one-shifted w i l = shl-exact 1 i w (lit< tt) (omega arith) ∙ one-mul (2 ^ i)
 pub one-shifted-pos : (w i : ℕ) → i < w → 1 ≤ 1 * 2 ^ i % 2 ^ w
 one-shifted-pos w i l = subst (λ (x : ℕ). 1 ≤ x) (sym (one-shifted w i l)) (pow-pos i)
 
--- the lowest element of a part of a set of numbers below n
-pub part-below : (n all rest i : ℕ) → all < 2 ^ n → ((j : ℕ) → hasBit rest j ≡ true → hasBit all j ≡ true) → Lowest rest i → i < n
-part-below n all rest i l part low = has-below n all i l (part i (low .has))
-
 -- ---- the least key
 
 module _ (key : List ℕ) (m : ℕ) where
-  pub least-start : {i left : ℕ} → Lowest m i → Removed m i left → LeastKey key m left i
-  least-start {i} {left} low gone =
+  pub least-start : {i left : ℕ} → FirstAndRest m i left → LeastKey key m left i
+  least-start {i} {left} first =
       record {
-        has = low .has;
-        part = λ j h. removed-was gone j h;
+        has = first .lowest .has;
+        part = taken-was first;
         least = λ j h n.
             by-cases (eqb j i)
             (λ t. subst (λ (k : ℕ). getD key i 0 ≤ getD key k 0) (sym (eqb-true j i t)) (omega arith))
-            (λ t. true-false (removed-other gone j (eqb-false j i t) ∙ h) n);
+            (λ t. true-false (removed-other (first .removed) j (eqb-false j i t) ∙ h) n);
       }
 
-  module _ {left best i left′ : ℕ} (w : LeastKey key m left best) (low : Lowest left i) (gone : Removed left i left′) where
+  module _ {left best i left′ : ℕ} (w : LeastKey key m left best) (first : FirstAndRest left i left′) where
     -- the least of those passed and of i
     least-more : (k : ℕ) → hasBit m k ≡ true → getD key k 0 ≤ getD key best 0 → getD key k 0 ≤ getD key i 0 → LeastKey key m left′ k
     least-more k h a b =
         record {
           has = h;
-          part = λ j x. w .part j (removed-was gone j x);
+          part = λ j x. w .part j (taken-was first j x);
           least = λ j x n.
               by-cases (eqb j i)
               (λ t. subst (λ (y : ℕ). getD key k 0 ≤ getD key y 0) (sym (eqb-true j i t)) b)
-              (λ t. let l = w .least j x (sym (removed-other gone j (eqb-false j i t)) ∙ n) in omega arith);
+              (λ t. let l = w .least j x (sym (removed-other (first .removed) j (eqb-false j i t)) ∙ n) in omega arith);
         }
 
     pub least-kept : getD key best 0 ≤ getD key i 0 → LeastKey key m left′ best
     least-kept l = least-more best (w .has) (omega arith) l
 
     pub least-new : getD key i 0 < getD key best 0 → LeastKey key m left′ i
-    least-new l = least-more i (w .part i (low .has)) (omega arith) (omega arith)
+    least-new l = least-more i (w .part i (first .lowest .has)) (omega arith) (omega arith)
 
   pub least-all : {left i : ℕ} → LeastKey key m left i → left ≡ 0 → LeastKey key m 0 i
   least-all {left} {i} w e = subst (λ (x : ℕ). LeastKey key m x i) e w

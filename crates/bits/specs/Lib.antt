@@ -2,3 +2,5 @@ pub mod Below
 pub mod Word
 pub mod Set
 pub mod Says
+pub mod Member
+pub mod Slots

@@ -2,7 +2,7 @@
 use mathlib.Core.Bool.{Bool, true, false, not, _&&_, _||_}
 use mathlib.Core.Path.{_≡_}
 use mathlib.Core.List.{List}
-use Prim.Native.Nat.{ℕ, _≤_, _<_}
+use Prim.Native.Nat.{ℕ, _^_, _≤_, _<_}
 use lib.Dec.{eqb}
 use lib.ListN.{getD}
 use Rattle.bits.specs.Word.{hasBit}
@@ -24,6 +24,13 @@ pub record Removed (m i r : ℕ) : Type 0 where
 pub record Lowest (m i : ℕ) : Type 0 where
   pub has : hasBit m i ≡ true
   pub before : (j : ℕ) → j < i → hasBit m j ≡ false
+
+-- i is the lowest element of m, and r is m without it
+pub record FirstAndRest (m i r : ℕ) : Type 0 where
+  pub lowest : Lowest m i
+  pub removed : Removed m i r
+  pub less : r < m
+  pub below : (n : ℕ) → m < 2 ^ n → i < n
 
 -- r is the mask of the set S
 pub record Mask (S : ℕ → Bool) (r : ℕ) : Type 0 where

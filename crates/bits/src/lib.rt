@@ -1,5 +1,7 @@
 // Words of a byte slice, low byte first, and words as sets.
 pub mod set;
+pub mod sizes;
+pub mod slots;
 pub mod small;
 
 ghost use mathlib.Core.Path.{_≡_};

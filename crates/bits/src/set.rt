@@ -4,7 +4,7 @@ ghost use Prim.Native.Nat.{_<_, _≤_};
 ghost use lib.Count.{ones};
 ghost use lib.Dec.{ltb};
 ghost use Rattle.bits.specs.Word.{hasBit};
-ghost use Rattle.bits.specs.Set.{Added, Removed, Lowest, Mask};
+ghost use Rattle.bits.specs.Set.{Added, Removed, Lowest, FirstAndRest, Mask};
 
 // All numbers below 64.
 pub const ALL: u64 = 0xffff_ffff_ffff_ffff;
@@ -40,6 +40,24 @@ pub fn lowest(m: u64) -> usize
     ensures { λ r. ⌜ (r < 64) × Lowest m r ⌝ }
 {
     (u64::trailing_zeros(m) % 64) as usize
+}
+
+// The lowest element of a set, and the set without it.
+pub struct Taken {
+    pub first: usize,
+    pub rest: u64,
+}
+
+// Takes the lowest element out of `m`, which is not empty.
+pub fn take(m: u64) -> Taken
+    requires { ⌜ (m ≡ 0 → ⊥) ⌝ }
+    ensures { λ r. ⌜ (r .first < 64) × FirstAndRest m (r .first) (r .rest) ⌝ }
+{
+    let first = lowest(m);
+    Taken {
+        first: first,
+        rest: without(m, first),
+    }
 }
 
 // All numbers below `n`.

@@ -1,11 +1,12 @@
 // Sets of numbers below 16 as short words: bit i says whether i is in the set.
+use crate::sizes::MOST_STEPS;
 ghost use mathlib.Core.Path.{_≡_};
 ghost use Prim.Native.Nat.{_<_, _≤_};
 ghost use lib.Count.{ones};
 ghost use lib.Dec.{ltb};
 ghost use lib.ListN.{length};
 ghost use Rattle.bits.specs.Word.{hasBit};
-ghost use Rattle.bits.specs.Set.{Added, Removed, Lowest, Mask, LeastKey};
+ghost use Rattle.bits.specs.Set.{Added, Removed, Lowest, FirstAndRest, Mask, LeastKey};
 
 // Whether `i` is in `m`.
 pub fn has(m: u16, i: usize) -> bool
@@ -40,6 +41,24 @@ pub fn lowest(m: u16) -> usize
     (u16::trailing_zeros(m) % 16) as usize
 }
 
+// The lowest element of a set, and the set without it.
+pub struct Taken {
+    pub first: usize,
+    pub rest: u16,
+}
+
+// Takes the lowest element out of `m`, which is not empty.
+pub fn take(m: u16) -> Taken
+    requires { ⌜ (m ≡ 0 → ⊥) ⌝ }
+    ensures { λ r. ⌜ (r .first < 16) × FirstAndRest m (r .first) (r .rest) ⌝ }
+{
+    let first = lowest(m);
+    Taken {
+        first: first,
+        rest: without(m, first),
+    }
+}
+
 // All numbers below `n`.
 pub fn below(n: usize) -> u16
     requires { ⌜ n ≤ 12 ⌝ }
@@ -49,15 +68,17 @@ pub fn below(n: usize) -> u16
 }
 
 // The element of a set that has the least key.
-pub fn least_key(key: &[u64; 12], m: u16) -> usize
+pub fn least_key(key: &[u64; MOST_STEPS], m: u16) -> usize
     requires { ⌜ (length (now key) ≡ 12) × (m < 4096) × (m ≡ 0 → ⊥) ⌝ }
     ensures { λ r. ⌜ LeastKey (now (key .entry)) m 0 r ⌝ }
 {
-    let mut best = lowest(m);
-    let mut left = without(m, best);
+    let start = take(m);
+    let mut best = start.first;
+    let mut left = start.rest;
     while left != 0 {
-        let i = lowest(left);
-        left = without(left, i);
+        let next = take(left);
+        left = next.rest;
+        let i = next.first;
         if key[i] >= key[best] {
             continue;
         }

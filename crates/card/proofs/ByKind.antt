@@ -3,7 +3,7 @@ use mathlib.Core.Path.{_≡_}
 use mathlib.Core.List.{List}
 use Prim.Native.Nat.{ℕ}
 use borrow.Author.Tests.{eq-eqb, ne-eqb}
-use Rattle.card.specs.Layout.{personKind, stepKind, ruleKind}
+use Rattle.card.specs.Layout.{personKind, stepKind}
 use Rattle.card.specs.Fields.{personOk, stepOk, ruleOk, fieldsOk}
 
 module _ (s : List ℕ) (steps kind c : ℕ) where

@@ -5,7 +5,9 @@ ghost use lib.ListN.{length};
 ghost use Rattle.card.specs.Fields.{headerOk, personOk, stepOk, ruleOk, limitOk, scopeSize, fieldsOk};
 use crate::byte;
 use crate::long;
+use crate::place;
 use crate::word;
+use bits::sizes::MOST_STEPS;
 
 pub const HEADER_KIND: usize = 1;
 
@@ -20,10 +22,10 @@ pub fn header_ok(s: &[u8], cards: usize) -> bool
     requires { ⌜ 16 ≤ length (now s) ⌝ }
     ensures { λ r. ⌜ r ≡ headerOk (now (s .entry)) cards ⌝ }
 {
-    (byte(s, 0, 0) == HEADER_KIND)
+    (byte(s, 0, place::KIND) == HEADER_KIND)
         & (byte(s, 0, 1) == 1)
-        & (word(s, 0, 2) == 0)
-        & (word(s, 0, 10) == cards)
+        & (word(s, 0, place::NEXT) == 0)
+        & (word(s, 0, place::CARD_COUNT) == cards)
         & (long(s, 0, 12) == 0)
 }
 
@@ -32,10 +34,10 @@ fn person_ok(s: &[u8], card: usize) -> bool
     ensures { λ r. ⌜ r ≡ personOk (now (s .entry)) card ⌝ }
 {
     (byte(s, card, 1) == 0)
-        & (long(s, card, 4) != 0)
-        & (word(s, card, 8) != 0)
-        & (word(s, card, 10) != 0)
-        & (word(s, card, 12) / 4096 == 0)
+        & (long(s, card, place::TAG) != 0)
+        & (word(s, card, place::SHOP) != 0)
+        & (word(s, card, place::BENCH) != 0)
+        & (word(s, card, place::PERMITTED) >> MOST_STEPS == 0)
         & (word(s, card, 14) == 0)
 }
 
@@ -44,7 +46,7 @@ fn step_ok(s: &[u8], card: usize) -> bool
     ensures { λ r. ⌜ r ≡ stepOk (now (s .entry)) card ⌝ }
 {
     (byte(s, card, 1) == 0)
-        & (long(s, card, 4) != 0)
+        & (long(s, card, place::TAG) != 0)
         & (long(s, card, 8) == 0)
         & (long(s, card, 12) == 0)
 }
@@ -69,9 +71,13 @@ fn rule_ok(s: &[u8], steps: usize, card: usize) -> bool
     requires { ⌜ (16 * card + 16 ≤ length (now s)) × (steps < 16) ⌝ }
     ensures { λ r. ⌜ r ≡ ruleOk (now (s .entry)) steps card ⌝ }
 {
-    let level = byte(s, card, 4);
-    let scope = word(s, card, 6);
-    limit_ok(byte(s, card, 1), byte(s, card, 5), scope_size(scope))
+    let level = byte(s, card, place::LEVEL);
+    let scope = word(s, card, place::SCOPE);
+    limit_ok(
+        byte(s, card, place::RULE),
+        byte(s, card, place::LIMIT),
+        scope_size(scope),
+    )
         & ((1 <= level) & (level <= 3))
         & (scope >> steps == 0)
         & (long(s, card, 8) == 0)

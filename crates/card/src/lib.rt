@@ -4,10 +4,11 @@ ghost use Prim.Native.Nat.{_+_, _*_, _<_};
 ghost use lib.ListN.{length};
 ghost use Rattle.card.specs.Layout.{cardByte, cardWord, cardLong};
 use bits::byte_at;
+use bits::sizes::CARD;
 
 pub mod fields;
-
-pub const CARD: usize = 16;
+pub mod place;
+pub mod refusal;
 
 // Byte `k` of a card.
 pub fn byte(s: &[u8], card: usize, k: usize) -> usize

@@ -1,43 +1,33 @@
 -- A walk that lists cards lists the whole chain. Assumes nothing.
-use mathlib.Core.Bool.{Bool, true, false, not, cond, _||_}
+use mathlib.Core.Bool.{Bool, true, false, not, _||_}
 use mathlib.Core.List.{List, [], _∷_, _++_}
 use mathlib.Core.Path.{_≡_, refl, sym, _∙_, ap, subst}
 use Prim.Native.Nat.{ℕ, zero, suc, _+_, _<_, _≤_}
 use native.Mathlib.Omega.{arith}
-use native.Mathlib.Nat.{not-suc-le-zero, le-of-suc-le-suc}
-use native.Mathlib.Numerals.{add-one}
+use native.Mathlib.Nat.{not-suc-le-zero}
 use lib.Dec.{eqb, leb, eqb·suc-zero}
-use lib.ListN.{length, getD, length-append, List·getD-append, List·getD-eq-default}
+use lib.ListN.{length, getD, length-append, List·getD-append}
 use lib.Seq.{getD-append-seam}
-use borrow.Author.Tests.{eqb-true, eqb-false, leb-true, leb-false, eq-eqb}
+use borrow.Author.Tests.{eqb-true, eqb-false, leb-true, leb-false}
+use Rattle.bits.specs.Member.{member}
+use Rattle.bits.proofs.Member.{member-not}
 use Rattle.bits.proofs.Below.{by-cases, true-false, below-suc}
-use Rattle.chain.specs.Walk.{listed, refused, Chain, walk, member, faultAt, firstFault}
+use Rattle.chain.specs.Walk.{listed, refused, Chain, walk, faultAt, firstFault}
 use Rattle.chain.specs.Chained.{Chained}
 use Rattle.chain.proofs.Step.{walk-end, walk-index, walk-fault, walk-next, fault-full}
-
-or-right-false : (a b : Bool) → a || b ≡ false → b ≡ false
-or-right-false true b h = true-false refl h
-or-right-false false b h = h
-
--- a card that is in no list is none of its cards
-pub member-at : (c : ℕ) (l : List ℕ) → member c l ≡ false → (j : ℕ) → j < length l → getD l j 0 ≡ c → ⊥
-unfolding member
-member-at c [] h j l e = not-suc-le-zero l
-member-at c (d ∷ ds) h zero l e = true-false (rw (eq-eqb c d (sym e)) refl) h
-member-at c (d ∷ ds) h (suc j) l e = member-at c ds (or-right-false (eqb c d) (member c ds) h) j (le-of-suc-le-suc l) e
 
 -- the tests that a card without a fault has passed
 pub record Clean (k : Chain) (acc : List ℕ) (i : ℕ) : Type 0 where
   pub before : k .before i ≡ false
-  pub new : member i acc ≡ false
+  pub new : member acc i ≡ false
   pub mine : k .mine i ≡ true
   pub fields : k .fields i ≡ true
 
 pub clean : (k : Chain) (full : Bool) (acc : List ℕ) (i : ℕ) → faultAt k full acc i ≡ 0 → Clean k acc i
 unfolding firstFault
-clean k full acc i e = go (k .before i) (member i acc) full (k .mine i) (k .fields i) refl refl refl refl e
+clean k full acc i e = go (k .before i) (member acc i) full (k .mine i) (k .fields i) refl refl refl refl e
   where
-    go : (a b f m g : Bool) → k .before i ≡ a → member i acc ≡ b → k .mine i ≡ m → k .fields i ≡ g → firstFault (a || b) f (not m) (not g) ≡ 0 → Clean k acc i
+    go : (a b f m g : Bool) → k .before i ≡ a → member acc i ≡ b → k .mine i ≡ m → k .fields i ≡ g → firstFault (a || b) f (not m) (not g) ≡ 0 → Clean k acc i
     go true b f m g p q r s z = absurd (omega arith)
     go false true f m g p q r s z = absurd (omega arith)
     go false false true m g p q r s z = absurd (omega arith)
@@ -101,7 +91,7 @@ module _ (k : Chain) (first : ℕ) where
         apart =
             at-snoc (λ (j x : ℕ). (m : ℕ) → m < j → getD (acc ++ i ∷ []) m 0 ≡ x → ⊥) acc i
             (λ j h m q e. u .apart j h m q (sym (List·getD-append acc (i ∷ []) 0 m (omega arith)) ∙ e))
-            (λ m q e. member-at i acc (c .new) m q (sym (List·getD-append acc (i ∷ []) 0 m q) ∙ e));
+            (λ m q e. member-not acc i (c .new) m q (sym (List·getD-append acc (i ∷ []) 0 m q) ∙ e));
         fresh = at-snoc (λ (j x : ℕ). k .before x ≡ false) acc i (u .fresh) (c .before);
         mine = at-snoc (λ (j x : ℕ). k .mine x ≡ true) acc i (u .mine) (c .mine);
         fields = at-snoc (λ (j x : ℕ). k .fields x ≡ true) acc i (u .fields) (c .fields);

@@ -1,18 +1,21 @@
 -- The invariant of the walk: what the definition gives from here is what it gives from the start, and the marks are those of the earlier
 -- chains with the cards listed so far. Assumes nothing.
-use mathlib.Core.Bool.{Bool, true, false, not, _||_, or-false, or-true, or-assoc}
+use mathlib.Core.Bool.{Bool, true, false, not, _||_, or-false, or-true}
 use mathlib.Core.List.{List, [], _∷_, _++_}
-use mathlib.Core.Path.{_≡_, refl, sym, _∙_, ap, subst}
-use Prim.Native.Nat.{ℕ, zero, suc, _+_, _-_, _<_, _≤_}
+use mathlib.Core.Path.{_≡_, sym, _∙_, ap, subst}
+use Prim.Native.Nat.{ℕ, suc, _+_, _-_, _<_, _≤_}
 use native.Mathlib.Omega.{arith}
 use native.Mathlib.Nat.{sub-zero}
 use native.Mathlib.Numerals.{add-one}
 use lib.Dec.{eqb}
-use lib.ListN.{length, getD, take, set, length-set}
+use lib.ListN.{length, take, set, length-set}
 use lib.Seq.{take-suc-set, getD-set-same, getD-set-other}
 use borrow.Author.Tests.{eqb-true, eqb-false, eq-eqb, ne-eqb}
+use Rattle.bits.specs.Member.{member}
+use Rattle.bits.proofs.Member.{member-snoc}
 use Rattle.bits.proofs.Below.{by-cases}
-use Rattle.chain.specs.Walk.{Walked, listed, refused, Chain, walk, member, faultAt, firstFault, indexFault}
+use Rattle.card.specs.Refusals.{indexFault}
+use Rattle.chain.specs.Walk.{listed, refused, Chain, walk, faultAt, firstFault}
 use Rattle.chain.specs.Answer.{Walks, marked}
 use Rattle.chain.specs.declared.Ended.the-variants.{Listed, Refused}
 use Rattle.chain.proofs.Step.{walk-end, walk-index, walk-fault, walk-next, fault-full}
@@ -20,27 +23,22 @@ use Rattle.chain.proofs.Step.{walk-end, walk-index, walk-fault, walk-ne
 pub record Going (k : Chain) (most first : ℕ) (marks : List Bool) (list : List ℕ) (taken holder at : ℕ) : Type 0 where
   pub room : taken ≤ most
   pub rest : walk k (most - taken) (take taken list) holder at ≡ walk k most [] 0 first
-  pub marking : (c : ℕ) → marked marks c ≡ (k .before c || member c (take taken list))
+  pub marking : (c : ℕ) → marked marks c ≡ (k .before c || member (take taken list) c)
   pub held : holder < 141
   pub list-length : length list ≡ 64
   pub marks-length : length marks ≡ 141
 
-pub member-snoc : (c : ℕ) (l : List ℕ) (i : ℕ) → member c (l ++ i ∷ []) ≡ (member c l || eqb c i)
-unfolding member
-member-snoc c [] i = or-false (eqb c i)
-member-snoc c (d ∷ ds) i = ap (λ (b : Bool). eqb c d || b) (member-snoc c ds i) ∙ sym (or-assoc (eqb c d) (member c ds) (eqb c i))
-
 -- one card more is marked
 mark-more : (before : ℕ → Bool) (marks : List Bool) (l : List ℕ) (i : ℕ)
-    → ((c : ℕ) → marked marks c ≡ (before c || member c l))
+    → ((c : ℕ) → marked marks c ≡ (before c || member l c))
     → i < length marks
-    → (c : ℕ) → marked (set marks i true) c ≡ (before c || member c (l ++ i ∷ []))
+    → (c : ℕ) → marked (set marks i true) c ≡ (before c || member (l ++ i ∷ []) c)
 mark-more before marks l i m b c =
     by-cases (eqb c i)
     (λ t. ap (λ (x : ℕ). marked (set marks i true) x) (eqb-true c i t) ∙ getD-set-same marks i true false b
-    ∙ sym (ap (λ (x : Bool). before c || x) (member-snoc c l i ∙ ap (λ (x : Bool). member c l || x) t ∙ or-true (member c l)) ∙ or-true (before c)))
+    ∙ sym (ap (λ (x : Bool). before c || x) (member-snoc l i c ∙ ap (λ (x : Bool). member l c || x) t ∙ or-true (member l c)) ∙ or-true (before c)))
     (λ t. getD-set-other marks i c true false (eqb-false c i t) ∙ m c
-    ∙ ap (λ (x : Bool). before c || x) (sym (member-snoc c l i ∙ ap (λ (x : Bool). member c l || x) t ∙ or-false (member c l))))
+    ∙ ap (λ (x : Bool). before c || x) (sym (member-snoc l i c ∙ ap (λ (x : Bool). member l c || x) t ∙ or-false (member l c))))
 
 -- the room that is left is none exactly when the chain is full
 full-room : (taken most : ℕ) → taken ≤ most → eqb (most - taken) 0 ≡ eqb taken most
@@ -71,7 +69,7 @@ module _ (k : Chain) (most first : ℕ) where
         record {
           counted = g .room;
           answer = sym e;
-          marking = λ l w c. let q : take taken list ≡ l = cc in subst (λ (x : List ℕ). marked marks c ≡ (k .before c || member c x)) q (g .marking c);
+          marking = λ l w c. let q : take taken list ≡ l = cc in subst (λ (x : List ℕ). marked marks c ≡ (k .before c || member x c)) q (g .marking c);
           list-length = g .list-length;
           marks-length = g .marks-length;
         }
@@ -130,7 +128,7 @@ module _ (k : Chain) (most first : ℕ) where
                 ∙ g .rest;
             marking = λ c.
                 mark-more (k .before) marks (take taken list) at (g .marking) (omega (arith, g .marks-length)) c
-                ∙ ap (λ (x : List ℕ). k .before c || member c x) (sym acc);
+                ∙ ap (λ (x : List ℕ). k .before c || member x c) (sym acc);
             held = b;
             list-length = length-set list taken at ∙ g .list-length;
             marks-length = length-set marks at true ∙ g .marks-length;

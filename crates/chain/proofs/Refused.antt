@@ -6,8 +6,9 @@ use Prim.Native.Nat.{ℕ, zero, suc, _<_, _≤_}
 use native.Mathlib.Omega.{arith}
 use lib.Dec.{eqb, leb, eqb·suc-zero}
 use borrow.Author.Tests.{eqb-true, eqb-false, leb-true, leb-false}
+use Rattle.bits.specs.Member.{member}
 use Rattle.bits.proofs.Below.{by-cases, true-false}
-use Rattle.chain.specs.Walk.{listed, refused, Chain, walk, faultAt, firstFault, member}
+use Rattle.chain.specs.Walk.{listed, refused, Chain, walk, faultAt, firstFault}
 use Rattle.chain.proofs.Step.{walk-end, walk-index, walk-fault, walk-next, fault-full}
 
 -- the refusals of a chain
@@ -35,7 +36,7 @@ module _ (k : Chain) where
   at-fault acc h i room full f c r n l q e =
       let w : walk k room acc h i ≡ refused (faultAt k full acc i) i = walk-fault k acc h i n room full r l q in
       let x : f ≡ faultAt k full acc i = cc in let y : c ≡ i = cc in
-      let z = fault-range (k .before i || member i acc) full (not (k .mine i)) (not (k .fields i)) q in
+      let z = fault-range (k .before i || member acc i) full (not (k .mine i)) (not (k .fields i)) q in
       (omega (arith, z .0), omega (arith, z .1), omega arith)
 
   never : {P : Type 0} (acc : List ℕ) (h i room f c : ℕ) → i ≡ 0 → walk k room acc h i ≡ refused f c → P

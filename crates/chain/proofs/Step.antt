@@ -7,7 +7,8 @@ use native.Mathlib.Omega.{arith}
 use lib.Dec.{eqb, eqb·suc-zero}
 use borrow.Author.Tests.{ne-eqb, eq-eqb, le-leb, lt-leb}
 use Rattle.bits.proofs.Below.{true-false}
-use Rattle.chain.specs.Walk.{listed, refused, Chain, walk, faultAt, firstFault, indexFault}
+use Rattle.card.specs.Refusals.{indexFault}
+use Rattle.chain.specs.Walk.{listed, refused, Chain, walk, faultAt, firstFault}
 
 module _ (k : Chain) (acc : List ℕ) (h : ℕ) where
   pub walk-end : (room : ℕ) → walk k room acc h 0 ≡ listed acc

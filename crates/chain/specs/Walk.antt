@@ -4,36 +4,12 @@ use mathlib.Core.Bool.{Bool, true, false, not, cond, _||_}
 use mathlib.Core.List.{List, [], _∷_, _++_}
 use Prim.Native.Nat.{ℕ, zero, suc}
 use lib.Dec.{eqb, leb}
+use Rattle.bits.specs.Member.{member}
+use Rattle.card.specs.Refusals.{indexFault, reachedFault, kindFault, fieldFault, countFault}
 
 pub data Walked : Type 0 where
   listed : List ℕ → Walked
   refused : ℕ → ℕ → Walked
-
--- the card stands in the list
-unfoldable pub member : ℕ → List ℕ → Bool
-member c [] = false
-member c (d ∷ ds) = eqb c d || member c ds
-
--- The refusals of a chain.
--- "5: an index not below the number of cards. The card that holds it."
-abbrev pub indexFault : ℕ
-indexFault = 5
-
--- "6: a chain comes to a card already reached. That card."
-abbrev pub reachedFault : ℕ
-reachedFault = 6
-
--- "7: a card of another kind than its chain. That card."
-abbrev pub kindFault : ℕ
-kindFault = 7
-
--- "8: a field outside its values, or an unnamed byte of a person, step or rule card that is not zero. That card."
-abbrev pub fieldFault : ℕ
-fieldFault = 8
-
--- "9: .. more than 64 people, 12 steps or 64 rules (the first card too many)."
-abbrev pub countFault : ℕ
-countFault = 9
 
 -- A chain as its walk sees it.
 pub record Chain : Type 0 where
@@ -55,7 +31,7 @@ firstFault reached full other bad =
 
 -- the fault of card i where the chain has taken the cards acc, and room for no more where full says so
 abbrev pub faultAt : Chain → Bool → List ℕ → ℕ → ℕ
-faultAt k full acc i = firstFault (k .before i || member i acc) full (not (k .mine i)) (not (k .fields i))
+faultAt k full acc i = firstFault (k .before i || member acc i) full (not (k .mine i)) (not (k .fields i))
 
 -- what index i on card h leads to: the chain's end, a refusal, or the rest of the chain
 abbrev pub meet : Chain → Bool → List ℕ → ℕ → ℕ → Walked → Walked

@@ -9,20 +9,17 @@ ghost use Rattle.card.specs.Layout.{kindOf};
 ghost use Rattle.card.specs.Fields.{fieldsOk};
 ghost use Rattle.chain.specs.Walk.{firstFault, walk};
 ghost use Rattle.chain.specs.Answer.{Walks, chainOf, marked};
+use bits::sizes::CardList;
+use bits::sizes::CardMarks;
 use card::byte;
 use card::fields::fields_ok;
+use card::place;
+use card::refusal::COUNT_FAULT;
+use card::refusal::FIELD_FAULT;
+use card::refusal::INDEX_FAULT;
+use card::refusal::KIND_FAULT;
+use card::refusal::REACHED_FAULT;
 use card::word;
-
-// The refusals of a chain.
-pub const INDEX_FAULT: u32 = 5;
-
-pub const REACHED_FAULT: u32 = 6;
-
-pub const KIND_FAULT: u32 = 7;
-
-pub const FIELD_FAULT: u32 = 8;
-
-pub const COUNT_FAULT: u32 = 9;
 
 // How a walk ended: with the number of cards listed, or with a refusal and its card.
 pub enum Ended {
@@ -56,7 +53,7 @@ fn fault_at(s: &[u8], kind: usize, steps: usize, card: usize, reached: bool, ful
     first_fault(
         reached,
         full,
-        byte(s, card, 0) != kind,
+        byte(s, card, place::KIND) != kind,
         !fields_ok(s, steps, kind, card),
     )
 }
@@ -69,8 +66,8 @@ pub fn walk_chain(
     steps: usize,
     most: usize,
     first: usize,
-    marks: &mut [bool; 141],
-    list: &mut [u8; 64],
+    marks: &mut CardMarks,
+    list: &mut CardList,
 ) -> Ended
     requires { ⌜ (16 * cards ≤ length (now s)) × (cards ≤ 141) × (steps < 16) × (most ≤ 64) × (length (now marks) ≡ 141) × (length (now list) ≡ 64) ⌝ }
     ensures { λ r. ⌜ Walks most (walk (chainOf (now (s .entry)) cards kind steps (marked (now (marks .entry)))) most [] 0 first) r (marked (now (marks .entry))) (now (marks .exit)) (now (list .exit)) ⌝ }
@@ -91,7 +88,7 @@ pub fn walk_chain(
         list[taken] = at as u8;
         taken += 1;
         holder = at;
-        at = word(s, at, 2);
+        at = word(s, at, place::NEXT);
     }
     Ended::Listed(taken)
 }

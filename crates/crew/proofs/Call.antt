@@ -7,11 +7,12 @@ use native.Mathlib.Omega.{arith}
 use lib.ListN.{length, getD, drop}
 use denote.Enum.Declared.{tagOf}
 use types.Run.{OneOf}
+use Rattle.card.specs.Refusals.{shortFault, planFault}
 use Rattle.sheet.proofs.Reading.{the-type}
 use Rattle.sheet.specs.Answer.{sheetOf}
 use Rattle.answer.specs.Number.{numberOf}
 use Rattle.sheet.specs.Readable.{ReadableJob}
-use Rattle.sheet.specs.declared.Job as sheet
+use Rattle.sheet.specs.declared.SheetJob as sheet
 use Rattle.sheet.specs.declared.Sheet.{Sheet}
 use Rattle.sheet.specs.declared.Reading.{Reading}
 use Rattle.sheet.specs.declared.Reading.the-variants.{Readable, Refused}
@@ -21,11 +22,11 @@ use Rattle.workflow.specs.First.{Found, found, nothing, planOf, listOf, firstPl
 use Rattle.workflow.proofs.First.{firstPlan-found}
 use Rattle.workflow.proofs.Lists.{planOf-listOf}
 use Rattle.pattern.specs.Tables.{planIn}
-use Rattle.first.specs.Settle.{answer}
+use Rattle.first.specs.Settle.{foundAs}
 use Rattle.instance.specs.Instance.{instanceOf, mayOf, crewTags}
 use Rattle.answer.specs.Bytes.{Outcome, written}
 use Rattle.crew.specs.Crew.{crewAnswer, crewOf}
-use Rattle.answer.specs.Number.{Numbered}
+use Rattle.answer.specs.Number.{refusalNumber, Returnable}
 use Rattle.crew.proofs.Read.{crew-read, crew-refused, crew-short, crew-none, crew-found, tags-cong}
 
 -- an answer of the second kind is a refusal
@@ -43,11 +44,6 @@ returns-outcome s buffer o e = (sym (ap (λ (x : Outcome). x .number) e), sym (a
 module _ (s : List ℕ) (a : Sheet) (e : a ≡ sheetOf s) where
   read-as : (r : Reading) → a .reading ≡ r → sheetOf s .reading ≡ r
   read-as r d = sym (ap (λ (x : Sheet). x .reading) e) ∙ d
-
-  pub numbered : OneOf (1 ∷ []) (tagOf the-type (a .reading)) → Numbered (a .reading)
-  numbered k =
-      refusal-of (λ (r : Reading). a .reading ≡ r → Numbered r) (a .reading) k
-      (λ f c d. let q = read-sheet-refusal s f c (read-as (Refused f c) d) in (omega arith, omega arith)) refl
 
   pub returns-refusal : (buffer : List ℕ) → OneOf (1 ∷ []) (tagOf the-type (a .reading)) → (n : ℕ) → n ≡ numberOf (a .reading) → Returns s buffer n buffer
   returns-refusal buffer k n d =
@@ -67,18 +63,22 @@ module _ (s : List ℕ) (a : Sheet) (e : a ≡ sheetOf s) where
         crew-read s buffer people steps rules (read-as (Readable people steps rules) d)
         ∙ ap (λ (x : Sheet). crewOf people steps rules (x .job) buffer) (sym e)
 
-    pub returns-short : (buffer : List ℕ) → length buffer < 8 * steps → Returns s buffer 256 buffer
-    returns-short buffer l = returns-outcome s buffer _ (crew-is buffer ∙ crew-short people steps rules (a .job) buffer l)
+    pub returns-short : (buffer : List ℕ) → length buffer < 8 * steps → (n : ℕ) → n ≡ refusalNumber shortFault 0 → Returns s buffer n buffer
+    returns-short buffer l n m =
+        let o = returns-outcome s buffer _ (crew-is buffer ∙ crew-short people steps rules (a .job) buffer l) in
+        (m ∙ o .0, o .1)
 
-    module _ (won : Bool) (plan : List ℕ) (is : firstPlan (instanceOf people steps rules (a .job)) (mayOf (a .job)) ≡ answer steps won plan) where
-      pub returns-none : (buffer : List ℕ) → 8 * steps ≤ length buffer → won ≡ false → Returns s buffer 3328 buffer
-      returns-none buffer l w =
-          returns-outcome s buffer _
-          (crew-is buffer ∙ crew-none people steps rules (a .job) buffer l (is ∙ ap (λ (b : Bool). answer steps b plan) w))
+    module _ (won : Bool) (plan : List ℕ) (is : firstPlan (instanceOf people steps rules (a .job)) (mayOf (a .job)) ≡ foundAs steps won plan) where
+      pub returns-none : (buffer : List ℕ) → 8 * steps ≤ length buffer → won ≡ false → (n : ℕ) → n ≡ refusalNumber planFault 0
+          → Returns s buffer n buffer
+      returns-none buffer l w n m =
+          let is-none = is ∙ ap (λ (b : Bool). foundAs steps b plan) w in
+          let o = returns-outcome s buffer _ (crew-is buffer ∙ crew-none people steps rules (a .job) buffer l is-none) in
+          (m ∙ o .0, o .1)
 
       module _ (w : won ≡ true) where
         is-found : firstPlan (instanceOf people steps rules (a .job)) (mayOf (a .job)) ≡ found (listOf steps (planIn plan))
-        is-found = is ∙ ap (λ (b : Bool). answer steps b plan) w
+        is-found = is ∙ ap (λ (b : Bool). foundAs steps b plan) w
 
         pub plan-below : (t : ℕ) → t < steps → getD plan t 0 < 64
         plan-below t l =

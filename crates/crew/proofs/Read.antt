@@ -7,13 +7,13 @@ use lib.ListN.{length, getD, drop}
 use borrow.Author.Tests.{lt-ltb, le-ltb}
 use Rattle.sheet.specs.Answer.{answer, sheetOf, jobOf}
 use Rattle.sheet.specs.Read.{Read, job, fault, readSheet}
-use Rattle.sheet.specs.declared.Job as sheet
+use Rattle.sheet.specs.declared.SheetJob as sheet
 use Rattle.sheet.specs.declared.Reading.the-variants.{Readable, Refused}
 use Rattle.sheet.proofs.Readable.{read-sheet-job}
 use Rattle.workflow.specs.First.{found, nothing, firstPlan}
 use Rattle.instance.specs.Instance.{instanceOf, mayOf, crewTags}
 use Rattle.answer.specs.Bytes.{refused, written}
-use Rattle.answer.specs.Refusals.{shortFault, planFault}
+use Rattle.card.specs.Refusals.{shortFault, planFault}
 use Rattle.crew.specs.Crew.{crewAnswer, crewRead, crewOf, planned}
 
 module _ (s buffer : List ℕ) where
@@ -26,7 +26,7 @@ module _ (s buffer : List ℕ) where
       ∙ ap (λ (n : ℕ). crewOf n (length (r .step-cards)) (length (r .rule-cards)) (jobOf s (r .person-cards) (r .step-cards) (r .rule-cards)) buffer) (r .people-count)
       ∙ ap (λ (n : ℕ). crewOf people n (length (r .rule-cards)) (jobOf s (r .person-cards) (r .step-cards) (r .rule-cards)) buffer) (r .steps-count)
       ∙ ap (λ (n : ℕ). crewOf people steps n (jobOf s (r .person-cards) (r .step-cards) (r .rule-cards)) buffer) (r .rules-count)
-      ∙ ap (λ (j : sheet.Job). crewOf people steps rules j buffer) (sym (r .filled))
+      ∙ ap (λ (j : sheet.SheetJob). crewOf people steps rules j buffer) (sym (r .filled))
 
   -- a sheet that was refused
   pub crew-refused : (f c : ℕ) → sheetOf s .reading ≡ Refused f c → crewAnswer s buffer ≡ refused f c buffer
@@ -38,7 +38,7 @@ module _ (s buffer : List ℕ) where
       go (fault g d) e = let x : g ≡ f = cc in let y : d ≡ c = cc in ap₂ (λ (a b : ℕ). refused a b buffer) x y
 
 -- the cases of a job with these counts
-module _ (people steps rules : ℕ) (j : sheet.Job) (buffer : List ℕ) where
+module _ (people steps rules : ℕ) (j : sheet.SheetJob) (buffer : List ℕ) where
   pub crew-short : length buffer < 8 * steps → crewOf people steps rules j buffer ≡ refused shortFault 0 buffer
   unfolding crewOf
   crew-short l = rw (lt-ltb _ _ l)

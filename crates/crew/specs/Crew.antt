@@ -6,20 +6,20 @@ use lib.Dec.{ltb}
 use lib.ListN.{length, drop}
 use Rattle.sheet.specs.Answer.{jobOf}
 use Rattle.sheet.specs.Read.{Read, job, fault, readSheet}
-use Rattle.sheet.specs.declared.Job as sheet
+use Rattle.sheet.specs.declared.SheetJob as sheet
 use Rattle.workflow.specs.First.{Found, found, nothing, firstPlan}
 use Rattle.instance.specs.Instance.{instanceOf, mayOf, crewTags}
-use Rattle.answer.specs.Refusals.{shortFault, planFault}
+use Rattle.card.specs.Refusals.{shortFault, planFault}
 use Rattle.answer.specs.Bytes.{Outcome, refused, written}
 
 -- "Crew: 8 bytes a step, step tag then person tag, steps in chain order." "Later bytes of the buffer keep their values."
-unfoldable pub planned : sheet.Job → ℕ → List ℕ → Found → Outcome
+unfoldable pub planned : sheet.SheetJob → ℕ → List ℕ → Found → Outcome
 planned j steps buffer (found plan) =
     record { number = 0; bytes = written (crewTags (j .«step_tag») (j .«person_tag») plan steps) ++ drop (8 * steps) buffer }
 planned j steps buffer nothing = refused planFault 0 buffer
 
 -- of a job with these counts: "1 .. 8 × steps for a crew", then the first valid plan
-unfoldable pub crewOf : ℕ → ℕ → ℕ → sheet.Job → List ℕ → Outcome
+unfoldable pub crewOf : ℕ → ℕ → ℕ → sheet.SheetJob → List ℕ → Outcome
 crewOf people steps rules j buffer =
     cond (ltb (length buffer) (8 * steps)) (refused shortFault 0 buffer)
     (planned j steps buffer (firstPlan (instanceOf people steps rules j) (mayOf j)))

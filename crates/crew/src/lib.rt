@@ -5,35 +5,30 @@ ghost use lib.ListN.{length};
 ghost use Rattle.sheet.specs.Readable.{ReadableJob};
 ghost use Rattle.workflow.specs.First.{firstPlan};
 ghost use Rattle.instance.specs.Instance.{instanceOf, mayOf};
-ghost use Rattle.first.specs.Settle.{answer};
+ghost use Rattle.first.specs.Settle.{foundAs};
 ghost use Rattle.crew.specs.Crew.{crewAnswer};
-use answer::NO_PLAN;
-use answer::SHORT;
 use answer::number;
-use first::Found;
+use answer::returned;
+use card::refusal::PLAN_FAULT;
+use card::refusal::SHORT_FAULT;
+use first::Planned;
 use first::first_plan;
-use sheet::Job;
 use sheet::Reading;
+use sheet::SheetJob;
 use sheet::read_sheet;
+use tables::may_masks;
 use tables::pose;
 use write::write_crew;
 
-pub mod write;
+mod write;
 
 // The first valid plan of a job.
-fn plan_job(job: Job, people: usize, steps: usize, rules: usize) -> Found
+fn plan_job(job: SheetJob, people: usize, steps: usize, rules: usize) -> Planned
     requires { ⌜ ReadableJob people steps rules job ⌝ }
-    ensures { λ r. ⌜ firstPlan (instanceOf people steps rules job) (mayOf job) ≡ answer steps (r .found) (r .plan) ⌝ }
+    ensures { λ r. ⌜ firstPlan (instanceOf people steps rules job) (mayOf job) ≡ foundAs steps (r .found) (r .plan) ⌝ }
 {
-    let posed = pose(job, people, steps, rules);
-    let may = posed.may;
-    let tables = posed.tables;
-    let size = tables.size;
-    let class = tables.class;
-    let crowd = tables.crowd;
-    let rule = tables.rule;
-    let of = tables.of;
-    first_plan(size, &class, &crowd, &rule, &of, &may)
+    let may = may_masks(&job.permitted, people);
+    first_plan(pose(job, people, steps, rules), &may)
 }
 
 // The crew call. Every byte of the buffer and the returned number are what `crewAnswer` gives.
@@ -51,12 +46,12 @@ pub fn crew(sheet: &[u8], buffer: &mut [u8]) -> u32
         return number(reading);
     };
     if buffer.len() < 8 * steps {
-        return SHORT;
+        return returned(SHORT_FAULT, 0);
     }
     let job = read.job;
     let found = plan_job(job, people, steps, rules);
     if !found.found {
-        return NO_PLAN;
+        return returned(PLAN_FAULT, 0);
     }
     let step_tag = job.step_tag;
     let person_tag = job.person_tag;

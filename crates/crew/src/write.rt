@@ -1,5 +1,7 @@
 // The crew, written into the caller's buffer: 8 bytes a step.
 use answer::bytes::put_long;
+use bits::sizes::MOST_STEPS;
+use bits::sizes::Plan;
 ghost use mathlib.Core.List.{_++_};
 ghost use mathlib.Core.Path.{_≡_};
 ghost use Prim.Native.Nat.{ℕ, _*_, _<_, _≤_};
@@ -9,9 +11,9 @@ ghost use Rattle.answer.specs.Bytes.{written};
 
 // Writes the step's tag and the person's tag of each step.
 pub fn write_crew(
-    step_tag: &[u32; 12],
+    step_tag: &[u32; MOST_STEPS],
     person_tag: &[u32; 64],
-    plan: &[u8; 12],
+    plan: &Plan,
     steps: usize,
     out: &mut [u8],
 )

@@ -1,29 +1,31 @@
 -- What eligibility is asked of: a pattern of the placed steps and the rules of a job, as arrays. Assumes nothing.
-use mathlib.Core.Bool.{true, false}
+use mathlib.Core.Bool.{true}
 use mathlib.Core.List.{List}
 use mathlib.Core.Path.{_≡_}
-use Prim.Native.Nat.{ℕ, _≤_, _<_}
+use Prim.Native.Nat.{ℕ, _^_, _≤_, _<_}
 use lib.ListN.{length, getD}
 use Rattle.bits.specs.Word.{hasBit}
-use Rattle.pattern.specs.Rule.{levelIn}
+use Rattle.pattern.specs.Rule.{levelIn, scopeIn}
 use Rattle.pattern.specs.Tables.{labelIn, ruleIn}
 use Rattle.pattern.specs.Eligible.{Possible}
 
--- the placed steps are steps of the job, and their labels at the level too
-pub record Marked (steps placed level : ℕ) (label : List ℕ) : Type 0 where
-  pub few : steps ≤ 12
+-- the placed steps have labels at the level, and a short word holds the set of them
+pub record LabelsReady (placed level : ℕ) (label : List ℕ) : Type 0 where
   pub sized : length label ≡ 36
   pub from : 1 ≤ level
   pub to : level ≤ 3
-  pub below : (s : ℕ) → hasBit placed s ≡ true → s < steps
-  pub labels : (s : ℕ) → hasBit placed s ≡ true → labelIn label level s < steps
+  pub below : placed < 4096
+  pub labels : (s : ℕ) → hasBit placed s ≡ true → labelIn label level s < 16
 
--- the rules, and a pattern with labels at the level of each rule of the mask
-pub record Rules (steps among : ℕ) (rule : List ℕ) (placed : ℕ) (label : List ℕ) : Type 0 where
+-- the rules, and labels at the level of each rule of the mask
+pub record RulesReady (among : ℕ) (rule : List ℕ) (placed : ℕ) (label : List ℕ) : Type 0 where
   pub sized : length rule ≡ 64
-  pub marked : (i : ℕ) → hasBit among i ≡ true → Marked steps placed (levelIn (getD rule i 0)) label
+  pub marked : (i : ℕ) → hasBit among i ≡ true → LabelsReady placed (levelIn (getD rule i 0)) label
 
--- every rule of the mask, but for those of `rest`, can still be met
-pub record Among (steps among rest : ℕ) (rule : List ℕ) (placed : ℕ) (label : List ℕ) : Type 0 where
-  pub part : (i : ℕ) → hasBit rest i ≡ true → hasBit among i ≡ true
-  pub possible : (i : ℕ) → hasBit among i ≡ true → hasBit rest i ≡ false → Possible steps (hasBit placed) (labelIn label) (ruleIn rule i)
+-- what holds for every number of steps that the scopes of the mask's rules are of
+abbrev pub ForSteps : ℕ → List ℕ → (ℕ → Type 0) → Type 0
+ForSteps among rule P = (steps : ℕ) → ((i : ℕ) → hasBit among i ≡ true → scopeIn (getD rule i 0) < 2 ^ steps) → P steps
+
+-- every rule of the mask can still be met
+abbrev pub Among : ℕ → ℕ → List ℕ → ℕ → List ℕ → Type 0
+Among steps among rule placed label = (i : ℕ) → hasBit among i ≡ true → Possible steps (hasBit placed) (labelIn label) (ruleIn rule i)

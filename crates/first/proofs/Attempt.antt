@@ -9,12 +9,12 @@ use Rattle.workflow.proofs.First.{first-plan-given, no-valid-plan}
 use Rattle.pattern.specs.Tables.{mayIn, planIn}
 use Rattle.backtrack.specs.Trial.{Trial}
 use Rattle.backtrack.specs.declared.Tried.the-variants.{Found, Unsatisfiable}
-use Rattle.first.specs.Settle.{answer}
+use Rattle.first.specs.Settle.{foundAs}
 
-pub first-found : (j : Job) (may plan : List ℕ) → Trial true j may plan Found → firstPlan j (mayIn may) ≡ answer (j .steps) true plan
+pub first-found : (j : Job) (may plan : List ℕ) → Trial true j may plan Found → firstPlan j (mayIn may) ≡ foundAs (j .steps) true plan
 unfolding Trial
 first-found j may plan t = first-plan-given j (mayIn may) (planIn plan) (record { valid = t .valid; first = t .first refl })
 
-pub first-absent : (j : Job) (may plan : List ℕ) → Trial true j may plan Unsatisfiable → firstPlan j (mayIn may) ≡ answer (j .steps) false plan
+pub first-absent : (j : Job) (may plan : List ℕ) → Trial true j may plan Unsatisfiable → firstPlan j (mayIn may) ≡ foundAs (j .steps) false plan
 unfolding Trial
 first-absent j may plan t = no-valid-plan j (mayIn may) (λ π v. t (π, v))

@@ -13,17 +13,18 @@ use lib.Pow.{pow-pos, shl-exact}
 use lib.Seq.{getD-set-same, getD-set-other}
 use borrow.Author.Tests.{eqb-true, eqb-false, ltb-true, lt-ltb}
 use Rattle.bits.specs.Word.{hasBit}
-use Rattle.bits.specs.Set.{Removed, Lowest}
+use Rattle.bits.specs.Set.{FirstAndRest}
 use Rattle.bits.proofs.Below.{by-cases, true-false, and-left, and-right}
 use Rattle.bits.proofs.Counting.{and-of}
-use Rattle.bits.proofs.SetLaws.{zero-empty, mod-bit, removed-other, removed-was}
+use Rattle.bits.proofs.Masks.{taken-was}
+use Rattle.bits.proofs.SetLaws.{zero-empty, mod-bit, removed-other}
 use Rattle.workflow.specs.Problem.{Job, May, Plan, Valid}
 use Rattle.workflow.specs.First.{firstPlan}
 use Rattle.workflow.proofs.First.{no-valid-plan}
 use Rattle.pattern.specs.Tables.{mayIn, planIn}
 use Rattle.backtrack.proofs.Extending.{own-bit}
 use Rattle.search.specs.Existence.{Existence}
-use Rattle.first.specs.Settle.{Standing, Settled, answer}
+use Rattle.first.specs.Settle.{Standing, Settled, foundAs}
 use Rattle.first.proofs.Narrow.{Narrowed, narrowed-valid, other-standing, fixed-standing, fixed-first, standing-first}
 
 -- one bit of a word
@@ -59,15 +60,35 @@ pub record Looking (j : Job) (s : ℕ) (may may′ plan plan′ : List ℕ) (lef
   pub part : (p : ℕ) → hasBit left p ≡ true → (p < planIn plan s) × (mayIn may s p ≡ true)
   pub all : (σ : Plan) → Valid j (mayIn may) σ → σ s < planIn plan s → hasBit left (σ s) ≡ true
 
-module _ {j : Job} {s : ℕ} (may plan : List ℕ) (standing : Standing j (mayIn may) s (planIn plan)) (masks : length may ≡ 12) (sized : length plan ≡ 12)
-    (below : s < j .steps) (few : j .steps ≤ 12) (people : j .people ≤ 64) where
-  person : planIn plan s < 64
+-- step s is to be settled, with a plan in hand
+pub record InHand (j : Job) (s : ℕ) (may plan : List ℕ) : Type 0 where
+  pub standing : Standing j (mayIn may) s (planIn plan)
+  pub masks : length may ≡ 12
+  pub sized : length plan ≡ 12
+  pub below : s < j .steps
+  pub few : j .steps ≤ 12
+  pub people : j .people ≤ 64
+
+module _ {j : Job} {s : ℕ} {may plan : List ℕ} (hand : InHand j s may plan) where
+  standing : Standing j (mayIn may) s (planIn plan)
+  standing = hand .standing
+
+  below : s < j .steps
+  below = hand .below
+
+  people : j .people ≤ 64
+  people = hand .people
+
+  pub step-small : s < 12
+  step-small = omega (arith, hand .below, hand .few)
+
+  pub person : planIn plan s < 64
   person = standing-person plan standing below people
 
   pub looking-start : Looking j s may may plan plan (getD may s 0 % (1 * 2 ^ planIn plan s % 18446744073709551616))
   looking-start =
       record {
-        masks = masks;
+        masks = hand .masks;
         same = refl;
         others = λ t n p. refl;
         part = λ p h.
@@ -85,7 +106,7 @@ module _ {j : Job} {s : ℕ} (may plan : List ℕ) (standing : Standing j (mayIn
   settled-at may′ plan′ e f others w none =
       let y : ℕ = 1 * 2 ^ planIn plan′ s % 18446744073709551616 in
       let n : Narrowed (mayIn may) (mayIn (set may′ s y)) s (λ p. eqb p (planIn plan′ s))
-      = mask-set may may′ s y _ e (omega arith) (own-bit (planIn plan′ s) (standing-person plan′ w below people)) others in
+      = mask-set may may′ s y _ e step-small (own-bit (planIn plan′ s) (standing-person plan′ w below people)) others in
       record {
         masks = length-set may′ s y ∙ e;
         sized = f;
@@ -99,19 +120,19 @@ module _ {j : Job} {s : ℕ} (may plan : List ℕ) (standing : Standing j (mayIn
     pub settled-none : left ≡ 0 → Settled j (s + 1) may (set may′ s (1 * 2 ^ planIn plan s % 18446744073709551616)) plan′
     settled-none e =
         subst (λ (x : List ℕ). Settled j (s + 1) may (set may′ s (1 * 2 ^ planIn plan s % 18446744073709551616)) x) (sym (look .same))
-        (settled-at may′ plan (look .masks) sized (look .others) standing (λ σ v l. true-false (look .all σ v l) (zero-empty left e (σ s))))
+        (settled-at may′ plan (look .masks) (hand .sized) (look .others) standing (λ σ v l. true-false (look .all σ v l) (zero-empty left e (σ s))))
 
     -- the lowest of those left is tried
-    module _ {q : ℕ} (small : q < 64) (low : Lowest left q) {plan″ : List ℕ} {r : Bool}
+    module _ {q rest : ℕ} (small : q < 64) (next : FirstAndRest left q rest) {plan″ : List ℕ} {r : Bool}
         (x : Existence j (mayIn (set may′ s (1 * 2 ^ q % 18446744073709551616))) plan′ plan″ r) where
       abbrev pin : List ℕ
       pin = set may′ s (1 * 2 ^ q % 18446744073709551616)
 
       pinned : Narrowed (mayIn may) (mayIn pin) s (λ p. eqb p q)
-      pinned = mask-set may may′ s _ _ (look .masks) (omega arith) (own-bit q small) (look .others)
+      pinned = mask-set may may′ s _ _ (look .masks) step-small (own-bit q small) (look .others)
 
       permitted : (p : ℕ) → eqb p q ≡ true → mayIn may s p ≡ true
-      permitted p h = subst (λ (k : ℕ). mayIn may s k ≡ true) (sym (eqb-true p q h)) (look .part q (low .has) .1)
+      permitted p h = subst (λ (k : ℕ). mayIn may s k ≡ true) (sym (eqb-true p q h)) (look .part q (next .lowest .has) .1)
 
       pub settled-found : r ≡ true → Settled j (s + 1) may pin plan″
       settled-found e =
@@ -120,23 +141,23 @@ module _ {j : Job} {s : ℕ} (may plan : List ℕ) (standing : Standing j (mayIn
           (other-standing j (mayIn may) (mayIn pin) s (planIn plan) standing below (λ p. eqb p q) pinned permitted (planIn plan″) (x .won e))
           (λ σ v l.
           let a : σ s < q = subst (λ (k : ℕ). σ s < k) at l in
-          let b : q < planIn plan s = look .part q (low .has) .0 in
-          true-false (look .all σ v (omega arith)) (low .before (σ s) a)))
+          let b : q < planIn plan s = look .part q (next .lowest .has) .0 in
+          true-false (look .all σ v (omega arith)) (next .lowest .before (σ s) a)))
         where
           at : planIn plan″ s ≡ q
           at = eqb-true (planIn plan″ s) q (sym (pinned .own (planIn plan″ s)) ∙ x .won e .authorised s below)
 
-      pub looking-next : (left′ : ℕ) → Removed left q left′ → r ≡ false → Looking j s may pin plan plan″ left′
-      looking-next left′ gone e =
+      pub looking-next : r ≡ false → Looking j s may pin plan plan″ rest
+      looking-next e =
           record {
             masks = length-set may′ s _ ∙ look .masks;
             same = x .kept e ∙ look .same;
             others = pinned .others;
-            part = λ p h. look .part p (removed-was gone p h);
+            part = λ p h. look .part p (taken-was next p h);
             all = λ σ v l.
                 by-cases (eqb (σ s) q)
                 (λ t. absurd (x .lost e (σ, narrowed-valid j (mayIn may) (mayIn pin) s (λ p. eqb p q) pinned σ v t)))
-                (λ t. removed-other gone (σ s) (eqb-false (σ s) q t) ∙ look .all σ v l);
+                (λ t. removed-other (next .removed) (σ s) (eqb-false (σ s) q t) ∙ look .all σ v l);
           }
 
 module _ {j : Job} {s : ℕ} where
@@ -148,7 +169,7 @@ pub settled-next : {j : Job} {s t : ℕ} {may now now′ plan plan′ : List ℕ
 settled-next w x = record { masks = x .masks; sized = x .sized; standing = x .standing; first = x .first ∙ w .first }
 
 -- all steps are settled
-pub settled-all : {j : Job} {s : ℕ} {may now plan : List ℕ} → Settled j s may now plan → j .steps ≤ s → firstPlan j (mayIn may) ≡ answer (j .steps) true plan
+pub settled-all : {j : Job} {s : ℕ} {may now plan : List ℕ} → Settled j s may now plan → j .steps ≤ s → firstPlan j (mayIn may) ≡ foundAs (j .steps) true plan
 settled-all {j} {s} {may} {now} {plan} w l =
     sym (w .first)
     ∙ standing-first j (mayIn now) (planIn plan)
@@ -158,5 +179,6 @@ settled-all {j} {s} {may} {now} {plan} w l =
 pub first-standing : {j : Job} {may : May} (plan : List ℕ) → Valid j may (planIn plan) → Standing j may 0 (planIn plan)
 first-standing plan v = record { valid = v; fixed = λ t p l h. absurd (omega arith) }
 
-pub first-none : {j : Job} (may : List ℕ) {plan plan′ : List ℕ} {r : Bool} → Existence j (mayIn may) plan plan′ r → r ≡ false → firstPlan j (mayIn may) ≡ answer (j .steps) false plan′
+pub first-none : {j : Job} (may : List ℕ) {plan plan′ : List ℕ} {r : Bool} → Existence j (mayIn may) plan plan′ r → r ≡ false
+    → firstPlan j (mayIn may) ≡ foundAs (j .steps) false plan′
 first-none {j} may x e = no-valid-plan j (mayIn may) (λ π v. x .lost e (π, v))

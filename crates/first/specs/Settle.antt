@@ -21,6 +21,6 @@ pub record Settled (j : Job) (s : ℕ) (may may′ plan′ : List ℕ) : Type 0 
   pub first : firstPlan j (mayIn may′) ≡ firstPlan j (mayIn may)
 
 -- an answer: the people of the first `steps` steps, or nothing
-abbrev pub answer : ℕ → Bool → List ℕ → Found
-answer steps true plan = found (listOf steps (planIn plan))
-answer steps false plan = nothing
+abbrev pub foundAs : ℕ → Bool → List ℕ → Found
+foundAs steps true plan = found (listOf steps (planIn plan))
+foundAs steps false plan = nothing

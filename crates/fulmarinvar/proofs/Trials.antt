@@ -1,8 +1,9 @@
 -- Every row of the table of starred sheets holds, computed from the sheets' bytes. Assumes nothing.
 use mathlib.Core.Path.{refl}
 use Rattle.bits.specs.Below.{all, any, count, first}
+use Rattle.bits.specs.Member.{member}
 use Rattle.card.specs.Fields.{headerOk, personOk, stepOk, ruleOk, limitOk, fieldsOk}
-use Rattle.chain.specs.Walk.{walk, member, firstFault}
+use Rattle.chain.specs.Walk.{walk, firstFault}
 use Rattle.sheet.specs.Read.{readSheet, readPeople, peopleRead, stepsRead, checked, firstClash, firstLate, firstLoose}
 use Rattle.sheet.specs.Answer.{jobOf, table}
 use Rattle.workflow.specs.Problem.{opens, distinct, authorisedTest, eligibleTest, valid}
@@ -10,14 +11,15 @@ use Rattle.workflow.specs.First.{firstPlan, firstOf, tryAll}
 use Rattle.instance.specs.Instance.{crewTags}
 use Rattle.answer.specs.Bytes.{written}
 use Rattle.crew.specs.Crew.{planned, crewOf, crewRead}
-use Rattle.resiliency.specs.Away as away
 use Rattle.resiliency.specs.Away.{breaking, increasing}
 use Rattle.resiliency.specs.Count.{spare, firstBreaking}
 use Rattle.resiliency.specs.Count as counts
-use Rattle.resiliency.specs.Spare.{awayTags, answered, spareOf, spareRead, spareAnswer}
+use Rattle.resiliency.specs.Spare.{awayTags, spareBytes, spareOf, spareRead, spareAnswer}
 use Rattle.fulmarinvar.specs.Trials.{All, trials}
 
 pub trials-hold : All trials
-unfolding all any count first headerOk personOk stepOk ruleOk limitOk fieldsOk walk member firstFault readSheet readPeople peopleRead stepsRead checked firstClash firstLate firstLoose jobOf table opens distinct authorisedTest eligibleTest valid firstPlan firstOf tryAll crewTags written planned crewOf crewRead away.member breaking increasing spare firstBreaking counts.walk awayTags answered spareOf spareRead spareAnswer
+unfolding all any count first headerOk personOk stepOk ruleOk limitOk fieldsOk walk member firstFault readSheet readPeople peopleRead stepsRead checked firstClash firstLate
+    firstLoose jobOf table opens distinct authorisedTest eligibleTest valid firstPlan firstOf tryAll crewTags written
+    planned crewOf crewRead breaking increasing spare firstBreaking counts.countFrom awayTags spareBytes spareOf spareRead spareAnswer
 trials-hold =
     ((refl, refl), ((refl, refl), ((refl, refl), ((refl, refl), ((refl, refl), ((refl, refl), ((refl, refl), ((refl, refl), ((refl, refl), tt)))))))))

@@ -9,7 +9,7 @@ use Rattle.crew.specs.Crew.{crewAnswer}
 use Rattle.resiliency.specs.Spare.{spareAnswer}
 
 -- a sheet, the bytes of a crew buffer, what the crew call gives, a cap, and what the spare call gives
-pub record Trial : Type 0 where
+pub record SheetTrial : Type 0 where
   pub sheet : List ℕ
   pub size : ℕ
   pub crew : Outcome
@@ -20,10 +20,10 @@ abbrev pub blank : ℕ → List ℕ
 blank n = replicate n 0
 
 -- the statement of every row, on buffers of zeros
-abbrev pub Holds : Trial → Type 0
+abbrev pub Holds : SheetTrial → Type 0
 Holds t = (crewAnswer (t .sheet) (blank (t .size)) ≡ t .crew) × (spareAnswer (t .cap) (t .sheet) (blank 16) ≡ t .spare)
 
-abbrev pub All : List Trial → Type 0
+abbrev pub All : List SheetTrial → Type 0
 All [] = Unit {0}
 All (t ∷ ts) = Holds t × All ts
 
@@ -41,7 +41,7 @@ abbrev pub crewW : Outcome
 crewW = tags (10 ∷ 101 ∷ 20 ∷ 101 ∷ 30 ∷ 102 ∷ [])
 
 -- sheets 1 to 9
-abbrev pub trials : List Trial
+abbrev pub trials : List SheetTrial
 trials =
     record { sheet = sheetW; size = 24; crew = crewW; cap = 2; spare = counted 1 (101 ∷ 102 ∷ 0 ∷ []) }
     ∷ record { sheet = sheetW; size = 24; crew = crewW; cap = 0; spare = counted 0 (0 ∷ 0 ∷ 0 ∷ []) }

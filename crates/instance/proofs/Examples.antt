@@ -1,10 +1,11 @@
 -- Sheet W of paper 01 read and planned from its bytes. Assumes nothing.
 use mathlib.Core.List.{[], _∷_}
 use mathlib.Core.Path.{_≡_, refl}
+use Rattle.bits.specs.Member.{member}
 use Rattle.bits.specs.Below.{all, any, count, first}
 use Rattle.card.specs.Fields.{headerOk, personOk, stepOk, ruleOk, limitOk, fieldsOk}
-use Rattle.chain.specs.Walk.{walk, member, firstFault}
-use Rattle.sheet.specs.declared.Job as sheet
+use Rattle.chain.specs.Walk.{walk, firstFault}
+use Rattle.sheet.specs.declared.SheetJob as sheet
 use Rattle.sheet.specs.Read.{job, readSheet, readPeople, peopleRead, stepsRead, checked, firstClash, firstLate, firstLoose}
 use Rattle.sheet.specs.Answer.{jobOf, table}
 use Rattle.workflow.specs.Problem.{opens, distinct, authorisedTest, eligibleTest, valid}
@@ -17,7 +18,7 @@ pub w-read : readSheet sheetW ≡ job (1 ∷ 2 ∷ 3 ∷ 4 ∷ []) (5 ∷ 6 ∷ 
 unfolding readSheet readPeople peopleRead stepsRead checked walk member firstFault firstClash firstLate firstLoose first any all count headerOk personOk stepOk ruleOk limitOk fieldsOk
 w-read = refl
 
-abbrev jobW : sheet.Job
+abbrev jobW : sheet.SheetJob
 jobW = jobOf sheetW (1 ∷ 2 ∷ 3 ∷ 4 ∷ []) (5 ∷ 6 ∷ 7 ∷ []) (8 ∷ 9 ∷ 10 ∷ [])
 
 pub w-plan : firstPlan (instanceOf 4 3 3 jobW) (mayOf jobW) ≡ found (0 ∷ 0 ∷ 1 ∷ [])

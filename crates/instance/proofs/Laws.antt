@@ -1,7 +1,6 @@
 -- The instance of a readable job is one of the published problem: its classes nest, and its rules are in order. Assumes nothing.
-use mathlib.Core.Bool.{Bool, true, false, _&&_, _||_}
-use mathlib.Core.List.{List}
-use mathlib.Core.Path.{_≡_, refl, sym, _∙_, ap, subst}
+use mathlib.Core.Bool.{Bool, true, _&&_, _||_}
+use mathlib.Core.Path.{_≡_, _∙_, ap, subst}
 use Prim.Native.Nat.{ℕ, zero, suc, _+_, _-_, _^_, _<_, _≤_}
 use native.Mathlib.Nat.{zero-add, suc-add}
 use native.Mathlib.Omega.{arith}
@@ -10,13 +9,13 @@ use lib.ListN.{getD}
 use borrow.Author.Tests.{eqb-true, leb-true}
 use Rattle.bits.specs.Below.{count}
 use Rattle.bits.specs.Word.{hasBit, bitsSet}
-use Rattle.bits.proofs.Below.{by-cases, true-false, and-left, and-right}
+use Rattle.bits.proofs.Below.{by-cases, and-left, and-right}
 use Rattle.bits.proofs.Counting.{count-false, is-false}
 use Rattle.bits.proofs.SetLaws.{has-below}
-use Rattle.card.specs.Fields.{limitOk, within}
+use Rattle.card.specs.Fields.{limitOk}
 use Rattle.sheet.specs.Readable.{ReadableJob}
-use Rattle.sheet.specs.declared.Job as sheet
-use Rattle.workflow.specs.Problem.{Kind, Nested, RuleOk, Fits}
+use Rattle.sheet.specs.declared.SheetJob as sheet
+use Rattle.workflow.specs.Problem.{Nested, RuleOk, Fits}
 use Rattle.workflow.specs.Numbered.{kindIn}
 use Rattle.workflow.proofs.Rules.{ruleOf-ok}
 use Rattle.instance.specs.Instance.{instanceOf}
@@ -61,7 +60,7 @@ fits (suc (suc (suc zero))) limit size h = limit-cases 3 limit size h (λ a b c 
 fits (suc (suc (suc (suc n)))) limit size h =
     limit-cases (suc (suc (suc (suc n)))) limit size h (λ a b c d. absurd (omega arith)) (λ a b c d. (b, c, d))
 
-module _ (people steps rules : ℕ) (j : sheet.Job) (r : ReadableJob people steps rules j) where
+module _ (people steps rules : ℕ) (j : sheet.SheetJob) (r : ReadableJob people steps rules j) where
   pub instance-nested : Nested (instanceOf people steps rules j)
   instance-nested = record { finer = finer; person = λ p p′ l m e. e }
     where

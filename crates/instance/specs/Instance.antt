@@ -3,31 +3,31 @@ use mathlib.Core.List.{List, [], _∷_, _++_}
 use Prim.Native.Nat.{ℕ, zero, suc}
 use lib.ListN.{getD}
 use Rattle.bits.specs.Word.{hasBit}
-use Rattle.sheet.specs.declared.Job as sheet
+use Rattle.sheet.specs.declared.SheetJob as sheet
 use Rattle.workflow.specs.Problem.{Job, May}
 use Rattle.workflow.specs.Numbered.{cardRule}
 
 -- "Level 1 is the shop, 2 the bench, 3 the person."
-abbrev pub classAt : sheet.Job → ℕ → ℕ → ℕ
-classAt j zero p = p
-classAt j (suc zero) p = getD (j .shop) p 0
-classAt j (suc (suc zero)) p = getD (j .bench) p 0
-classAt j (suc (suc (suc q))) p = p
+abbrev pub classNumber : sheet.SheetJob → ℕ → ℕ → ℕ
+classNumber j zero p = p
+classNumber j (suc zero) p = getD (j .shop) p 0
+classNumber j (suc (suc zero)) p = getD (j .bench) p 0
+classNumber j (suc (suc (suc q))) p = p
 
 -- the instance that a reading with these counts gives
-abbrev pub instanceOf : ℕ → ℕ → ℕ → sheet.Job → Job
+abbrev pub instanceOf : ℕ → ℕ → ℕ → sheet.SheetJob → Job
 instanceOf people steps rules j =
     record {
       steps = steps;
       people = people;
       levels = 3;
-      class = classAt j;
+      class = classNumber j;
       rules = rules;
       rule = cardRule steps (j .«rule_kind») (j .«rule_level») (j .«rule_limit») (j .«rule_scope»);
     }
 
 -- "the steps permitted, bit j for step j"
-abbrev pub mayOf : sheet.Job → May
+abbrev pub mayOf : sheet.SheetJob → May
 mayOf j s p = hasBit (getD (j .permitted) p 0) s
 
 -- "step tag then person tag, steps in chain order": of the first n steps of a plan

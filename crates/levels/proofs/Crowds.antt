@@ -119,8 +119,8 @@ module _ (class named : List ℕ) where
             (λ t. let d : y ≡ x → ⊥ = eqb-false y x t in getD-set-other crowd x y _ 0 d ∙ w .each y (omega arith));
       }
 
-pub gathered : {people levels : ℕ} {class named crowd : List ℕ} (x : ℕ) → people ≤ 64 → levels * 64 ≤ x → ByName people levels class (levels * 64) named → ByPerson class named x crowd
-    → Gathered people levels class crowd
+pub gathered : {people levels : ℕ} {class named crowd : List ℕ} (x : ℕ) → people ≤ 64 → levels * 64 ≤ x
+    → ByName people levels class (levels * 64) named → ByPerson class named x crowd → Gathered people levels class crowd
 gathered {people} {levels} {class} {named} {crowd} x few all w m =
     record {
       sized = m .sized;

@@ -10,19 +10,20 @@ use Rattle.bits.specs.Word.{hasBit}
 use Rattle.bits.proofs.Below.{first-cong}
 use Rattle.workflow.specs.Problem.{Job, RuleOk}
 use Rattle.workflow.specs.Same.{Renamed}
-use Rattle.workflow.proofs.Same.{renamed-same}
+use Rattle.workflow.proofs.Same.{renamed-same, same-trans}
 use Rattle.pattern.specs.declared.Size.{Size}
-use Rattle.pattern.specs.Given.{Ruled, Given}
+use Rattle.pattern.specs.Given.{Ruled, Given, Leaders, Classed}
 use Rattle.pattern.specs.Pattern.{Refining}
 use Rattle.pattern.specs.Realize.{leader}
 use Rattle.pattern.specs.Rule.{levelIn, leastIn, mostIn, scopeIn}
 use Rattle.pattern.specs.Tables.{classIn, ruleIn, jobIn}
 use Rattle.pattern.proofs.Levels.{refining-up}
 use Rattle.levels.specs.Tabled.{Gathered, Naming}
-use Rattle.levels.specs.Trims.{Marks, Numbered, Rows, Renumbered, Trims}
+use Rattle.levels.proofs.Masks.{gathered-given, gathered-leaders, gathered-same}
+use Rattle.levels.specs.Trims.{Marks, KeptLevels, Rows, Renumbered, Trims}
 
-module _ (size : Size) (n marks : ℕ) (class rule class′ rule′ old new : List ℕ) (given : Given size class rule) (marked : Marks (size .rules) rule marks)
-    (numbered : Numbered (size .levels) marks n old new) (rows : Rows n old class class′) (renumbered : Renumbered (size .rules) rule new rule′) where
+module _ (size : Size) (n marks : ℕ) (class rule class′ rule′ old new : List ℕ) (given : Classed size class rule) (marked : Marks (size .rules) rule marks)
+    (numbered : KeptLevels (size .levels) marks n old new) (rows : Rows n old class class′) (renumbered : Renumbered (size .rules) rule new rule′) where
   abbrev size′ : Size
   size′ = record { steps = size .steps; people = size .people; levels = n; rules = size .rules }
 
@@ -111,11 +112,16 @@ module _ (size : Size) (n marks : ℕ) (class rule class′ rule′ old new : Li
         };
       }
 
-  pub given-trimmed : Given size′ class′ rule′
-  given-trimmed = record { ruled = ruled; few-people = given .few-people; classes = rows .sized; refining = refining; leaders = leaders }
+  classed : Classed size′ class′ rule′
+  classed = record { ruled = ruled; few-people = given .few-people; classes = rows .sized; refining = refining; leaders = leaders }
 
   pub ruled-trimmed : Ruled size′ rule′
   ruled-trimmed = ruled
 
-  pub trims : {crowd of : List ℕ} → Gathered (size .people) n class′ crowd → Naming (size .rules) rule′ of → Trims size class rule size′ class′ crowd rule′ of
-  trims g w = record { tabled = record { given = given-trimmed; crowds = g; naming = w }; same = renamed-same was is renamed }
+  pub trims : {crowd of : List ℕ} → Gathered (size .people) n class′ crowd → Naming (size .rules) rule′ of
+      → Trims size class rule (record { size = size′; class = class′; crowd = crowd; rule = rule′; of = of })
+  trims g w =
+      record {
+        ready = record { tabled = record { given = gathered-given classed g; naming = w }; names = gathered-leaders classed g };
+        same = same-trans (renamed-same was is renamed) (gathered-same classed g);
+      }

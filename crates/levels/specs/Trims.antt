@@ -9,7 +9,8 @@ use Rattle.workflow.specs.Same.{SamePlans}
 use Rattle.pattern.specs.declared.Size.{Size}
 use Rattle.pattern.specs.Rule.{levelIn, leastIn, mostIn, scopeIn, Packed}
 use Rattle.pattern.specs.Tables.{classIn, jobIn}
-use Rattle.levels.specs.Tabled.{Tabled}
+use Rattle.levels.specs.declared.Tables.{Tables}
+use Rattle.levels.specs.Tabled.{tabledJob, Ready}
 
 -- of the levels 1 to `levels`, old 1 to old n are kept, in order, and the named ones are among them
 pub record Keeps (levels n : ℕ) (named : ℕ → Bool) (old new : ℕ → ℕ) : Type 0 where
@@ -25,11 +26,19 @@ abbrev pub Marks : ℕ → List ℕ → ℕ → Type 0
 Marks rules rule marks = (i : ℕ) → i < rules → hasBit marks (levelIn (getD rule i 0)) ≡ true
 
 -- the marked levels, kept in order: level k of n is level old k, and a marked level q is level new q
-pub record Numbered (levels marks n : ℕ) (old new : List ℕ) : Type 0 where
+pub record KeptLevels (levels marks n : ℕ) (old new : List ℕ) : Type 0 where
   pub olds : length old ≡ 4
   pub news : length new ≡ 4
   pub few : n ≤ levels
   pub keeps : Keeps levels n (hasBit marks) (λ k. getD old k 0) (λ q. getD new q 0)
+
+-- old 1 to old n are levels, in order
+pub record OldLevels (levels n : ℕ) (old : List ℕ) : Type 0 where
+  pub sized : length old ≡ 4
+  pub few : n ≤ levels
+  pub from : (k : ℕ) → 1 ≤ k → k ≤ n → 1 ≤ getD old k 0
+  pub to : (k : ℕ) → 1 ≤ k → k ≤ n → getD old k 0 ≤ levels
+  pub ordered : (k : ℕ) → 1 ≤ k → k < n → getD old k 0 < getD old (suc k) 0
 
 -- the classes of the levels kept
 pub record Rows (n : ℕ) (old class class′ : List ℕ) : Type 0 where
@@ -42,7 +51,7 @@ pub record Renumbered (n : ℕ) (rule new rule′ : List ℕ) : Type 0 where
   pub each : (i : ℕ) → i < n
       → Packed (getD new (levelIn (getD rule i 0)) 0 % 16) (leastIn (getD rule i 0)) (mostIn (getD rule i 0)) (scopeIn (getD rule i 0)) (getD rule′ i 0)
 
--- the new arrays are a job with the same valid plans
-pub record Trims (size : Size) (class rule : List ℕ) (size′ : Size) (class′ crowd′ rule′ of′ : List ℕ) : Type 0 where
-  pub tabled : Tabled size′ class′ crowd′ rule′ of′
-  pub same : SamePlans (jobIn size class rule) (jobIn size′ class′ rule′)
+-- the tables are a job with the same valid plans
+pub record Trims (size : Size) (class rule : List ℕ) (t : Tables) : Type 0 where
+  pub ready : Ready t
+  pub same : SamePlans (jobIn size class rule) (tabledJob t)

@@ -1,4 +1,11 @@
 // A job's arrays without the levels that no rule names.
+use bits::sizes::CLASS_ENTRIES;
+use bits::sizes::Classes;
+use bits::sizes::Crowds;
+use bits::sizes::MOST_PEOPLE;
+use bits::sizes::MOST_RULES;
+use bits::sizes::Naming;
+use bits::sizes::Rules;
 use bits::small::has;
 use bits::small::with;
 use index::crowds;
@@ -8,8 +15,8 @@ use pattern::rule;
 ghost use mathlib.Core.Path.{_≡_};
 ghost use Prim.Native.Nat.{_≤_};
 ghost use lib.ListN.{length};
-ghost use Rattle.pattern.specs.Given.{Ruled, Given};
-ghost use Rattle.levels.specs.Trims.{Marks, Numbered, Rows, Renumbered, Trims};
+ghost use Rattle.pattern.specs.Given.{Ruled, Classed};
+ghost use Rattle.levels.specs.Trims.{Marks, KeptLevels, OldLevels, Rows, Renumbered, Trims};
 
 mod index;
 
@@ -24,14 +31,14 @@ pub struct Numbers {
 // the rules and those of them that name each step.
 pub struct Tables {
     pub size: Size,
-    pub class: [u8; 192],
-    pub crowd: [u64; 192],
-    pub rule: [u32; 64],
-    pub of: [u64; 12],
+    pub class: Classes,
+    pub crowd: Crowds,
+    pub rule: Rules,
+    pub of: Naming,
 }
 
 // The levels that rules name.
-fn marks(rules: usize, rule: &[u32; 64]) -> u16
+fn marks(rules: usize, rule: &Rules) -> u16
     requires { ⌜ (rules ≤ 64) × (length (now rule) ≡ 64) ⌝ }
     ensures { λ r. ⌜ Marks rules (now (rule .entry)) r ⌝ }
 {
@@ -45,7 +52,7 @@ fn marks(rules: usize, rule: &[u32; 64]) -> u16
 // Numbers the marked levels.
 fn number(levels: usize, marked: u16) -> Numbers
     requires { ⌜ levels ≤ 3 ⌝ }
-    ensures { λ r. ⌜ Numbered levels marked (r .count) (r .old) (r .new) ⌝ }
+    ensures { λ r. ⌜ KeptLevels levels marked (r .count) (r .old) (r .new) ⌝ }
 {
     let mut old = [0u8; 4];
     let mut new = [0u8; 4];
@@ -66,32 +73,29 @@ fn number(levels: usize, marked: u16) -> Numbers
 }
 
 // The classes of the levels kept.
-fn rows(
-    levels: usize,
-    count: usize,
-    marked: u16,
-    old: &[u8; 4],
-    new: &[u8; 4],
-    class: &[u8; 192],
-) -> [u8; 192]
-    requires { ⌜ (levels ≤ 3) × Numbered levels marked count (now old) (now new) × (length (now class) ≡ 192) ⌝ }
+fn rows(levels: usize, count: usize, old: &[u8; 4], class: &Classes) -> Classes
+    requires { ⌜ (levels ≤ 3) × OldLevels levels count (now old) × (length (now class) ≡ 192) ⌝ }
     ensures { λ r. ⌜ Rows count (now (old .entry)) (now (class .entry)) r ⌝ }
 {
-    let mut kept = [0u8; 192];
-    for x in 0..count * 64 {
-        let k = x / 64 + 1;
+    // All of them.
+    if count == levels {
+        return *class;
+    }
+    let mut kept = [0u8; CLASS_ENTRIES];
+    for x in 0..count * MOST_PEOPLE {
+        let k = x / MOST_PEOPLE + 1;
         let q = old[k] as usize;
-        kept[x] = class[(q - 1) * 64 + x % 64];
+        kept[x] = class[(q - 1) * MOST_PEOPLE + x % MOST_PEOPLE];
     }
     kept
 }
 
 // The rules with their levels in the new numbers.
-fn renumber(size: Size, rule: &[u32; 64], new: &[u8; 4]) -> [u32; 64]
+fn renumber(size: Size, rule: &Rules, new: &[u8; 4]) -> Rules
     requires { ⌜ Ruled size (now rule) × (length (now new) ≡ 4) ⌝ }
     ensures { λ r. ⌜ Renumbered (size .rules) (now (rule .entry)) (now (new .entry)) r ⌝ }
 {
-    let mut kept = [0u32; 64];
+    let mut kept = [0u32; MOST_RULES];
     let rules = size.rules;
     for i in 0..rules {
         let q = rule::level(rule[i]);
@@ -101,15 +105,15 @@ fn renumber(size: Size, rule: &[u32; 64], new: &[u8; 4]) -> [u32; 64]
 }
 
 // The job's arrays without the levels that no rule names.
-pub fn keep(size: Size, class: &[u8; 192], rule: &[u32; 64]) -> Tables
-    requires { ⌜ Given size (now class) (now rule) ⌝ }
-    ensures { λ r. ⌜ Trims size (now (class .entry)) (now (rule .entry)) (r .size) (r .class) (r .crowd) (r .rule) (r .of) ⌝ }
+pub fn keep(size: Size, class: &Classes, rule: &Rules) -> Tables
+    requires { ⌜ Classed size (now class) (now rule) ⌝ }
+    ensures { λ r. ⌜ Trims size (now (class .entry)) (now (rule .entry)) r ⌝ }
 {
     let marked = marks(size.rules, rule);
     let numbers = number(size.levels, marked);
     let old = numbers.old;
     let new = numbers.new;
-    let kept = rows(size.levels, numbers.count, marked, &old, &new, class);
+    let kept = rows(size.levels, numbers.count, &old, class);
     let renumbered = renumber(size, rule, &new);
     let named = Size {
         steps: size.steps,

@@ -12,12 +12,12 @@ use Rattle.bits.specs.Set.{Removed}
 use Rattle.bits.proofs.Below.{by-cases}
 use Rattle.bits.proofs.SetLaws.{has-below, removed-other, removed-was}
 use Rattle.matching.specs.Assignment.{suits, classAt}
-use Rattle.matching.specs.State.{Placed, Held, Ready, Blocked, Tried, Grown}
+use Rattle.matching.specs.State.{Placed, Held, Unserved, Blocked, AllBlocked, Grown}
 use Rattle.matching.proofs.Laws.{equal-or-not, class-same, class-other, given, dropped, lacks-part}
 
 -- g is to be given a class, and h has c
 pub record Displacing (edges at : List ℕ) (free g h c : ℕ) : Type 0 where
-  pub ready : Ready edges at free g
+  pub ready : Unserved edges at free g
   pub small : c < 64
   pub below : h < 12
   pub has : classAt at h ≡ c
@@ -41,7 +41,7 @@ module _ {edges at : List ℕ} {free g h c : ℕ} (it : Displacing edges at free
   displaced-other : (k : ℕ) → (k ≡ g → ⊥) → (k ≡ h → ⊥) → classAt (displaced at g h c) k ≡ classAt at k
   displaced-other k m n = class-other (set at g c) h 64 k n ∙ class-other at g c k m
 
-  pub displaced-ready : suits edges g c ≡ true → Ready edges (displaced at g h c) free h
+  pub displaced-ready : suits edges g c ≡ true → Unserved edges (displaced at g h c) free h
   displaced-ready suit = record {
     held = subst (λ (x : List ℕ). Held edges x free) (sym (set-comm at g h c 64 differ))
         (given (it .ready .below) (it .small)
@@ -87,9 +87,9 @@ module _ {edges at : List ℕ} {free g h c : ℕ} (it : Displacing edges at free
       ∙ ap (set at g) (sym (it .ready .idle)) ∙ set-getD at g 64
 
   -- h is stuck: its class is blocked too
-  pub tried-more : {was now now′ now″ : ℕ} → now < 2 ^ 64 → Tried edges at was now → hasBit now c ≡ true → Removed now c now′
-      → Tried edges (displaced at g h c) now′ now″ → ((d : ℕ) → suits edges h d ≡ true → hasBit now″ d ≡ false) → Tried edges at was now″
-  tried-more {was} {now} {now′} {now″} fits t in-now gone s own = record {
+  pub blocked-more : {was now now′ now″ : ℕ} → now < 2 ^ 64 → AllBlocked edges at was now → hasBit now c ≡ true → Removed now c now′
+      → AllBlocked edges (displaced at g h c) now′ now″ → ((d : ℕ) → suits edges h d ≡ true → hasBit now″ d ≡ false) → AllBlocked edges at was now″
+  blocked-more {was} {now} {now′} {now″} fits t in-now gone s own = record {
     shrunk = λ d p. t .shrunk d (part d p);
     blocked = λ d p q. by-cases (hasBit now d) (λ u. newly d u q) (λ u. before d (t .blocked d p u));
   }

@@ -8,11 +8,12 @@ use lib.Dec.{ltb}
 use lib.ListN.{getD, replicate, getD-replicate, List·getD-eq-default}
 use borrow.Author.Tests.{ltb-true, ltb-false, lt-ltb, not-true, not-false}
 use Rattle.bits.specs.Word.{hasBit}
-use Rattle.bits.specs.Set.{Removed, Lowest}
+use Rattle.bits.specs.Set.{FirstAndRest}
 use Rattle.bits.proofs.Below.{by-cases, true-false, and-left, and-right}
-use Rattle.bits.proofs.SetLaws.{full-has, mod-bit, zero-empty, removed-lacks, removed-other, removed-was, removed-less}
+use Rattle.bits.proofs.Masks.{taken-was}
+use Rattle.bits.proofs.SetLaws.{full-has, mod-bit, zero-empty, removed-lacks, removed-other}
 use Rattle.matching.specs.Assignment.{Assignment, Covers, inMask, suits, classAt}
-use Rattle.matching.specs.State.{Placed, Ready, Blocked, Stuck, Placing, Partial}
+use Rattle.matching.specs.State.{Placed, Unserved, Blocked, Stuck, Placement, Partial}
 use Rattle.matching.proofs.Hall.{Inside, none-closed}
 use Rattle.matching.proofs.Laws.{equal-or-not}
 
@@ -50,35 +51,32 @@ partial-none edges groups free = record {
 
 -- g is the next group
 module _ {edges : List ℕ} {groups : ℕ} {at : List ℕ} {free rest rest′ g : ℕ} (p : Partial edges groups at free rest)
-    (low : (g < 16) × Lowest rest g) (gone : Removed rest g rest′) where
+    (first : FirstAndRest rest g rest′) where
   known : inMask groups g ≡ true
-  known = p .part g (low .1 .has)
+  known = p .part g (first .lowest .has)
 
   idle : classAt at g ≡ 64
   idle =
       let m : classAt at g ≤ 64 = p .held .most g in
-      let n : Placed at g → ⊥ = λ h. true-false (low .1 .has) (p .only g h .1) in omega arith
+      let n : Placed at g → ⊥ = λ h. true-false (first .lowest .has) (p .only g h .1) in omega arith
 
-  pub next-ready : Ready edges at free g
+  pub next-ready : Unserved edges at free g
   next-ready = record { held = p .held; below = mask-below groups g known; idle = idle }
 
-  pub next-less : rest′ < rest
-  next-less = removed-less (low .1 .has) gone
-
-  module _ {at′ : List ℕ} {free′ was now : ℕ} {b : Bool} (a : Placing edges at at′ free free′ was now g b) where
+  module _ {at′ : List ℕ} {free′ was now : ℕ} {b : Bool} (a : Placement edges at at′ free free′ was now g b) where
     -- it has got a class
     pub next-placed : not b ≡ false → Partial edges groups at′ free′ rest′
     next-placed d =
         let w = a .success (not-false b d) in
         record {
           held = w .held;
-          part = λ k h. p .part k (removed-was gone k h);
+          part = λ k h. p .part k (taken-was first k h);
           placed = λ k m h. equal-or-not k g
               (λ q. subst (λ (x : ℕ). Placed at′ x) (sym q) (w .placed))
-              (λ n. w .kept k (p .placed k m (sym (removed-other gone k n) ∙ h)));
+              (λ n. w .kept k (p .placed k m (sym (removed-other (first .removed) k n) ∙ h)));
           only = λ k h. equal-or-not k g
-              (λ q. (subst (λ (x : ℕ). inMask groups x ≡ true) (sym q) known, subst (λ (x : ℕ). hasBit rest′ x ≡ false) (sym q) (removed-lacks gone)))
-              (λ n. let o = p .only k (w .only k h n) in (o .0, removed-other gone k n ∙ o .1));
+              (λ q. (subst (λ (x : ℕ). inMask groups x ≡ true) (sym q) known, subst (λ (x : ℕ). hasBit rest′ x ≡ false) (sym q) (removed-lacks (first .removed))))
+              (λ n. let o = p .only k (w .only k h n) in (o .0, removed-other (first .removed) k n ∙ o .1));
         }
 
     -- it is stuck, and no class was seen at first

@@ -14,7 +14,7 @@ use Rattle.bits.specs.Set.{Removed}
 use Rattle.bits.proofs.Below.{by-cases, true-false}
 use Rattle.bits.proofs.SetLaws.{removed-lacks, removed-was}
 use Rattle.matching.specs.Assignment.{suits, classAt}
-use Rattle.matching.specs.State.{Placed, Held, Holder, Ready, Grown}
+use Rattle.matching.specs.State.{Placed, Held, Holder, Unserved, Grown}
 
 -- below the length the default does not matter
 pub getD-default : (l : List ℕ) (i d e : ℕ) → i < length l → getD l i d ≡ getD l i e
@@ -105,7 +105,7 @@ dropped {edges} {at} {free} {h} b held = record {
 
 -- ---- group g gets a class that nobody has
 
-grown : {edges at : List ℕ} {free free′ g c : ℕ} → Ready edges at free g → c < 64 → Held edges (set at g c) free′ → Grown edges at (set at g c) free′ g
+grown : {edges at : List ℕ} {free free′ g c : ℕ} → Unserved edges at free g → c < 64 → Held edges (set at g c) free′ → Grown edges at (set at g c) free′ g
 grown {edges} {at} {free} {free′} {g} {c} r l held = record {
   held = held;
   placed = let q : classAt (set at g c) g ≡ c = class-same at g c (r .held .sized) (r .below) in omega arith;
@@ -120,7 +120,7 @@ grown {edges} {at} {free} {free′} {g} {c} r l held = record {
 pub lacks-part : (a b c : ℕ) → ((j : ℕ) → hasBit a j ≡ true → hasBit b j ≡ true) → hasBit b c ≡ false → hasBit a c ≡ false
 lacks-part a b c h f = by-cases (hasBit a c) (λ t. true-false (h c t) f) (λ t. t)
 
-pub grown-free : {edges at : List ℕ} {free free′ g c : ℕ} → Ready edges at free g → c < 64 → suits edges g c ≡ true → hasBit free c ≡ true
+pub grown-free : {edges at : List ℕ} {free free′ g c : ℕ} → Unserved edges at free g → c < 64 → suits edges g c ≡ true → hasBit free c ≡ true
     → Removed free c free′ → Grown edges at (set at g c) free′ g
 grown-free {edges} {at} {free} {free′} {g} {c} r l suit has gone =
     grown r l
@@ -138,7 +138,7 @@ grown-free {edges} {at} {free} {free′} {g} {c} r l suit has gone =
     nobody : (k : ℕ) → classAt at k ≡ c → ⊥
     nobody k e = true-false (subst (λ (x : ℕ). hasBit free x ≡ true) (sym e) has) (r .held .taken k (omega arith))
 
-pub grown-unheld : {edges at : List ℕ} {free g c h : ℕ} → Ready edges at free g → c < 64 → suits edges g c ≡ true → hasBit free c ≡ false
+pub grown-unheld : {edges at : List ℕ} {free g c h : ℕ} → Unserved edges at free g → c < 64 → suits edges g c ≡ true → hasBit free c ≡ false
     → Holder at c h → 12 ≤ h → Grown edges at (set at g c) free g
 grown-unheld {edges} {at} {free} {g} {c} {h} r l suit gone holder out =
     grown r l

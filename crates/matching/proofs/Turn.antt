@@ -14,9 +14,9 @@ use Rattle.bits.specs.Set.{Removed, Lowest}
 use Rattle.bits.proofs.Below.{true-false, and-right}
 use Rattle.bits.proofs.SetLaws.{and-bit-left, and-bit-right, and-apart, part-le, removed-less}
 use Rattle.matching.specs.Assignment.{suits}
-use Rattle.matching.specs.State.{Holder, Ready, Tried, Grown, Crowded, Stuck, Searching, Placing}
+use Rattle.matching.specs.State.{Holder, Unserved, AllBlocked, Grown, Crowded, Stuck, Searching, Placement}
 use Rattle.matching.proofs.Laws.{grown-free, grown-unheld}
-use Rattle.matching.proofs.Displace.{Displacing, displaced, displaced-ready, displaced-grown, restored, tried-more}
+use Rattle.matching.proofs.Displace.{Displacing, displaced, displaced-ready, displaced-grown, restored, blocked-more}
 
 -- the classes that suit g, as a mask
 abbrev pub mask : List ℕ → ℕ → ℕ
@@ -28,19 +28,19 @@ suits-of edges g c l h = rw (lt-ltb c 64 l) h
 suits-bit : (edges : List ℕ) (g c : ℕ) → suits edges g c ≡ true → hasBit (mask edges g) c ≡ true
 suits-bit edges g c h = and-right (ltb c 64) (hasBit (mask edges g) c) h
 
-won : {edges at at′ : List ℕ} {free free′ was now g : ℕ} → Grown edges at at′ free′ g → Placing edges at at′ free free′ was now g true
+won : {edges at at′ : List ℕ} {free free′ was now g : ℕ} → Grown edges at at′ free′ g → Placement edges at at′ free free′ was now g true
 won w = record { success = λ e. w; failure = λ e. true-false refl e }
 
 -- a free class is given
-pub turn-free : {edges at : List ℕ} {free free′ was g class : ℕ} → Ready edges at free g
+pub turn-free : {edges at : List ℕ} {free free′ was g class : ℕ} → Unserved edges at free g
     → (class < 64) × Lowest (bitAnd (mask edges g) free) class → Removed free class free′
-    → Placing edges at (set at g class) free free′ was was g true
+    → Placement edges at (set at g class) free free′ was was g true
 turn-free {edges} {at} {free} {free′} {was} {g} {class} r (l, low) gone =
     won (grown-free r l (suits-of edges g class l (and-bit-left (mask edges g) free class (low .has)))
     (and-bit-right (mask edges g) free class (low .has)) gone)
 
 -- no class of g's is free
-pub turn-crowded : {edges at : List ℕ} {free g : ℕ} → Ready edges at free g → bitAnd (mask edges g) free ≡ 0 → Crowded edges at free g
+pub turn-crowded : {edges at : List ℕ} {free g : ℕ} → Unserved edges at free g → bitAnd (mask edges g) free ≡ 0 → Crowded edges at free g
 turn-crowded {edges} {at} {free} {g} r e = record { ready = r; spent = λ c t. and-apart (mask edges g) free c e (suits-bit edges g c t) }
 
 -- the search begins
@@ -54,13 +54,13 @@ turn-first r = record {
 
 -- no class of g's is left: the search has failed
 pub turn-last : {edges at at′ : List ℕ} {free free′ was now g : ℕ} → Searching edges at at′ free free′ was now g
-    → bitAnd (mask edges g) now ≡ 0 → Placing edges at at′ free free′ was now g false
+    → bitAnd (mask edges g) now ≡ 0 → Placement edges at at′ free free′ was now g false
 turn-last {edges} {at} {at′} {free} {free′} {was} {now} {g} s e = record {
   success = λ f. true-false f refl;
   failure = λ f. record {
     same = s .same;
     unspent = s .unspent;
-    tried = subst (λ (x : List ℕ). Tried edges x was now) (s .same) (s .tried);
+    tried = subst (λ (x : List ℕ). AllBlocked edges x was now) (s .same) (s .tried);
     own = λ c t. and-apart (mask edges g) now c e (suits-bit edges g c t);
   };
 }
@@ -83,15 +83,15 @@ module _ {edges at₀ at : List ℕ} {free₀ free was now now′ g class h : �
   displacing : h < 12 → Displacing edges at free g h class
   displacing m = record { ready = t .search .crowded .ready; small = t .low .0; below = m; has = t .holder .has m }
 
-  since : {at′ : List ℕ} {free′ now″ : ℕ} → Grown edges at at′ free′ g → Placing edges at₀ at′ free₀ free′ was now″ g true
+  since : {at′ : List ℕ} {free′ now″ : ℕ} → Grown edges at at′ free′ g → Placement edges at₀ at′ free₀ free′ was now″ g true
   since {at′} {free′} w = won (subst (λ (x : List ℕ). Grown edges x at′ free′ g) (t .search .same) w)
 
   -- nobody has the class
-  pub turn-unheld : 12 ≤ h → Placing edges at₀ (set at g class) free₀ free was now′ g true
+  pub turn-unheld : 12 ≤ h → Placement edges at₀ (set at g class) free₀ free was now′ g true
   turn-unheld o = since (grown-unheld (t .search .crowded .ready) (t .low .0) suit (t .search .crowded .spent class suit) (t .holder) o)
 
   -- the holder is to get another
-  pub turn-ready : h < 12 → Ready edges (displaced at g h class) free h
+  pub turn-ready : h < 12 → Unserved edges (displaced at g h class) free h
   turn-ready m = displaced-ready (displacing m) suit
 
   pub turn-below : {n : ℕ} → 2 * was ≡ n → 2 * now′ + 1 < n
@@ -99,9 +99,9 @@ module _ {edges at₀ at : List ℕ} {free₀ free was now now′ g class h : �
       let p : now′ < now = removed-less unseen (t .gone) in
       let q : now ≤ was = part-le now was (t .search .tried .shrunk) in omega arith
 
-  module _ {at′ : List ℕ} {free′ now″ : ℕ} {b : Bool} (a : Placing edges (displaced at g h class) at′ free free′ now′ now″ h b) where
+  module _ {at′ : List ℕ} {free′ now″ : ℕ} {b : Bool} (a : Placement edges (displaced at g h class) at′ free free′ now′ now″ h b) where
     -- it has got one
-    pub turn-won : h < 12 → b ≡ true → Placing edges at₀ at′ free₀ free′ was now″ g true
+    pub turn-won : h < 12 → b ≡ true → Placement edges at₀ at′ free₀ free′ was now″ g true
     turn-won m e = since (displaced-grown (displacing m) (a .success e))
 
     -- it is stuck
@@ -114,7 +114,7 @@ module _ {edges at₀ at : List ℕ} {free₀ free was now now′ g class h : �
           same = s .same;
           unspent = s .unspent;
           crowded = s .crowded;
-          tried = tried-more (displacing m) (t .fits) (s .tried) unseen (t .gone) (k .tried) (k .own);
+          tried = blocked-more (displacing m) (t .fits) (s .tried) unseen (t .gone) (k .tried) (k .own);
         }
 
     pub turn-less : b ≡ false → now″ < now

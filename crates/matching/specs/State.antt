@@ -26,15 +26,15 @@ pub record Holder (at : List ℕ) (c h : ℕ) : Type 0 where
   pub has : h < 12 → classAt at h ≡ c
   pub nobody : h ≡ 12 → (k : ℕ) → k < 12 → classAt at k ≡ c → ⊥
 
--- group g may be given a class
-pub record Ready (edges at : List ℕ) (free g : ℕ) : Type 0 where
+-- group g has no class, and may be given one
+pub record Unserved (edges at : List ℕ) (free g : ℕ) : Type 0 where
   pub held : Held edges at free
   pub below : g < 12
   pub idle : classAt at g ≡ 64
 
 -- and no free class suits it
 pub record Crowded (edges at : List ℕ) (free g : ℕ) : Type 0 where
-  pub ready : Ready edges at free g
+  pub ready : Unserved edges at free g
   pub spent : (c : ℕ) → suits edges g c ≡ true → hasBit free c ≡ false
 
 -- class c has a holder all of whose classes are tried
@@ -44,7 +44,7 @@ pub record Blocked (edges at : List ℕ) (unseen c : ℕ) : Type 0 where
   pub all : (d : ℕ) → suits edges who d ≡ true → hasBit unseen d ≡ false
 
 -- each class tried since `was` is blocked
-pub record Tried (edges at : List ℕ) (was unseen : ℕ) : Type 0 where
+pub record AllBlocked (edges at : List ℕ) (was unseen : ℕ) : Type 0 where
   pub shrunk : (c : ℕ) → hasBit unseen c ≡ true → hasBit was c ≡ true
   pub blocked : (c : ℕ) → hasBit was c ≡ true → hasBit unseen c ≡ false → Blocked edges at unseen c
 
@@ -59,7 +59,7 @@ pub record Grown (edges at at′ : List ℕ) (free′ g : ℕ) : Type 0 where
 pub record Stuck (edges at at′ : List ℕ) (free free′ unseen unseen′ g : ℕ) : Type 0 where
   pub same : at′ ≡ at
   pub unspent : free′ ≡ free
-  pub tried : Tried edges at unseen unseen′
+  pub tried : AllBlocked edges at unseen unseen′
   pub own : (c : ℕ) → suits edges g c ≡ true → hasBit unseen′ c ≡ false
 
 -- a search for a class for g that has tried some: nothing is changed
@@ -67,10 +67,10 @@ pub record Searching (edges at at′ : List ℕ) (free free′ unseen unseen′ 
   pub same : at′ ≡ at
   pub unspent : free′ ≡ free
   pub crowded : Crowded edges at′ free′ g
-  pub tried : Tried edges at′ unseen unseen′
+  pub tried : AllBlocked edges at′ unseen unseen′
 
 -- what an attempt to give g a class comes to
-pub record Placing (edges at at′ : List ℕ) (free free′ unseen unseen′ g : ℕ) (won : Bool) : Type 0 where
+pub record Placement (edges at at′ : List ℕ) (free free′ unseen unseen′ g : ℕ) (won : Bool) : Type 0 where
   pub success : won ≡ true → Grown edges at at′ free′ g
   pub failure : won ≡ false → Stuck edges at at′ free free′ unseen unseen′ g
 

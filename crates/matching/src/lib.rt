@@ -3,40 +3,45 @@
 use bits::set::ALL;
 use bits::set::lowest;
 use bits::set::without;
+use bits::sizes::MOST_STEPS;
 use bits::small;
 ghost use mathlib.Core.Path.{_≡_};
-ghost use Prim.Native.Nat.{_<_};
 ghost use lib.ListN.{length};
 ghost use Rattle.matching.specs.Assignment.{Covers, inMask, suits, classAt};
-ghost use Rattle.matching.specs.State.{Holder, Ready, Crowded, Placing};
+ghost use Rattle.matching.specs.State.{Holder, Unserved, Crowded, Placement};
 
-// The class of a group that has none.
+// The classes that suit each group.
+pub type Edges = [u64; MOST_STEPS];
+
+// The class of each group, 64 where it has none.
+pub type Places = [u8; MOST_STEPS];
+
 const NOWHERE: u8 = 64;
 
-// An answer: whether every group has got a class, and then the class of each, 64 for a group that was not asked for.
+// An answer: whether every group that was asked for has got a class, and then the class of each.
 pub struct Cover {
     pub found: bool,
-    pub at: [u8; 12],
+    pub at: Places,
 }
 
 // The group that has class `c`, or 12 where none has.
-fn holder(at: &[u8; 12], c: u8) -> usize
+fn holder(at: &Places, c: u8) -> usize
     requires { ⌜ length (now at) ≡ 12 ⌝ }
     ensures { λ r. ⌜ Holder (now (at .entry)) c r ⌝ }
 {
-    for h in 0..12usize {
+    for h in 0..MOST_STEPS {
         if at[h] == c {
             return h;
         }
     }
-    12
+    MOST_STEPS
 }
 
 // Gives group `g` a class: a free one, or one whose holder can be given another. Nobody has a class
 // of `free`. On failure `at` and `free` are as they were, and `unseen` has lost what was tried.
-fn place(edges: &[u64; 12], at: &mut [u8; 12], free: &mut u64, unseen: &mut u64, g: usize) -> bool
-    requires { ⌜ Ready (now edges) (now at) (now free) g ⌝ }
-    ensures { λ r. ⌜ Placing (now (edges .entry)) (now (at .entry)) (now (at .exit)) (now (free .entry)) (now (free .exit)) (now (unseen .entry)) (now (unseen .exit)) g r ⌝ }
+fn place(edges: &Edges, at: &mut Places, free: &mut u64, unseen: &mut u64, g: usize) -> bool
+    requires { ⌜ Unserved (now edges) (now at) (now free) g ⌝ }
+    ensures { λ r. ⌜ Placement (now (edges .entry)) (now (at .entry)) (now (at .exit)) (now (free .entry)) (now (free .exit)) (now (unseen .entry)) (now (unseen .exit)) g r ⌝ }
 {
     let idle = edges[g] & *free;
     if idle != 0 {
@@ -50,9 +55,9 @@ fn place(edges: &[u64; 12], at: &mut [u8; 12], free: &mut u64, unseen: &mut u64,
 
 // The same for a group that no free class suits: it takes a class from its holder, who is placed
 // anew, and gives it back where that fails.
-fn augment(edges: &[u64; 12], at: &mut [u8; 12], free: &mut u64, unseen: &mut u64, g: usize) -> bool
+fn augment(edges: &Edges, at: &mut Places, free: &mut u64, unseen: &mut u64, g: usize) -> bool
     requires { ⌜ Crowded (now edges) (now at) (now free) g ⌝ }
-    ensures { λ r. ⌜ Placing (now (edges .entry)) (now (at .entry)) (now (at .exit)) (now (free .entry)) (now (free .exit)) (now (unseen .entry)) (now (unseen .exit)) g r ⌝ }
+    ensures { λ r. ⌜ Placement (now (edges .entry)) (now (at .entry)) (now (at .exit)) (now (free .entry)) (now (free .exit)) (now (unseen .entry)) (now (unseen .exit)) g r ⌝ }
 {
     let suited = edges[g];
     loop {
@@ -65,7 +70,7 @@ fn augment(edges: &[u64; 12], at: &mut [u8; 12], free: &mut u64, unseen: &mut u6
         let c = class as u8;
         let h = holder(at, c);
         at[g] = c;
-        if h >= 12 {
+        if h >= MOST_STEPS {
             return true;
         }
         at[h] = NOWHERE;
@@ -78,16 +83,17 @@ fn augment(edges: &[u64; 12], at: &mut [u8; 12], free: &mut u64, unseen: &mut u6
 }
 
 // A class for each group of `groups`, where there are enough.
-pub fn assign(edges: &[u64; 12], groups: u16) -> Cover
+pub fn assign(edges: &Edges, groups: u16) -> Cover
     ensures { λ r. ⌜ Covers (inMask groups) (suits (now (edges .entry))) (r .found) (classAt (r .at)) ⌝ }
 {
-    let mut at = [NOWHERE; 12];
+    let mut at = [NOWHERE; MOST_STEPS];
     let mut free = ALL;
     let mut unseen = ALL;
     let mut rest = groups % 4096;
     while rest != 0 {
-        let g = small::lowest(rest);
-        rest = small::without(rest, g);
+        let next = small::take(rest);
+        rest = next.rest;
+        let g = next.first;
         if !place(edges, &mut at, &mut free, &mut unseen, g) {
             return Cover {
                 found: false,

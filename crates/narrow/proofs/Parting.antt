@@ -2,35 +2,34 @@
 use mathlib.Core.Bool.{Bool, true, false, _&&_, _||_}
 use mathlib.Core.List.{List}
 use mathlib.Core.Path.{_≡_, refl, sym, subst, ap, _∙_}
-use Prim.Native.Nat.{ℕ, zero, suc, _+_, _^_, _≤_, _<_}
+use Prim.Native.Nat.{ℕ, zero, suc, _+_, _≤_, _<_}
 use native.Mathlib.Omega.{arith}
 use lib.Bits.{bitAnd, bitOr}
-use lib.Count.{ones}
 use lib.Dec.{eqb, ltb}
 use lib.ListN.{getD}
 use borrow.Author.Tests.{eqb-true, eqb-false, lt-ltb, ltb-true}
 use Rattle.bits.specs.Below.{count}
 use Rattle.bits.specs.Word.{hasBit}
-use Rattle.bits.specs.Set.{Added, Removed, Lowest}
+use Rattle.bits.specs.Set.{Added, FirstAndRest}
 use Rattle.bits.proofs.Below.{by-cases, true-false, and-left, and-right}
-use Rattle.bits.proofs.Counting.{and-of, is-false, bool-ext, count-zero, count-true, count-false, count-le}
-use Rattle.bits.proofs.SetLaws.{or-bit, empty-lacks, and-apart, has-below, added-other, removed-was}
+use Rattle.bits.proofs.Counting.{and-of, is-false, bool-ext, count-zero, count-true, count-false}
+use Rattle.bits.proofs.SetLaws.{or-bit, empty-lacks, and-apart, added-other}
 use Rattle.workflow.specs.Problem.{distinct}
 use Rattle.workflow.proofs.Occurs.{distinct-scope-mono}
 use Rattle.pattern.proofs.Counted.{Adds, distinct-new}
 use Rattle.pattern.specs.Tables.{mayIn}
 use Rattle.narrow.specs.Fixing.{Reaching}
 use Rattle.narrow.specs.Parting.{Apart}
-use Rattle.bits.proofs.Masks.{or-cases, or-left, or-right, bits-below, ones-count}
+use Rattle.bits.proofs.Masks.{or-cases, or-left, or-right, taken-was}
 use Rattle.narrow.proofs.Settling.{bound-of}
 
-module _ (people : ℕ) (c : ℕ → ℕ) (steps used : ℕ) (dom : List ℕ) where
-  -- the steps left are of the steps
-  pub record Parting (left all heads : ℕ) : Type 0 where
-    pub apart : Apart people c steps used dom all heads
-    pub rest : (s : ℕ) → hasBit left s ≡ true → hasBit steps s ≡ true
+-- the steps left are of the steps
+pub record Parting (people : ℕ) (c : ℕ → ℕ) (steps used : ℕ) (dom : List ℕ) (left all heads : ℕ) : Type 0 where
+  pub apart : Apart people c steps used dom all heads
+  pub rest : (s : ℕ) → hasBit left s ≡ true → hasBit steps s ≡ true
 
-  pub parting-none : Parting steps used 0
+module _ {people : ℕ} {c : ℕ → ℕ} {steps used : ℕ} {dom : List ℕ} where
+  pub parting-none : Parting people c steps used dom steps used 0
   parting-none =
       record {
         apart = record {
@@ -43,39 +42,40 @@ module _ (people : ℕ) (c : ℕ → ℕ) (steps used : ℕ) (dom : List ℕ) wh
         rest = λ s h. h;
       }
 
-  module _ (left all heads s left′ : ℕ) (w : Parting left all heads) (gone : Removed left s left′) where
+  module _ {left all heads s left′ : ℕ} (w : Parting people c steps used dom left all heads) (taken : FirstAndRest left s left′) where
     -- the step is passed
-    pub parting-skip : Parting left′ all heads
-    parting-skip = record { apart = w .apart; rest = λ u h. w .rest u (removed-was gone u h) }
+    pub parting-skip : Parting people c steps used dom left′ all heads
+    parting-skip = record { apart = w .apart; rest = λ u h. w .rest u (taken-was taken u h) }
 
     -- its domain reaches none of the classes so far
-    module _ (crowd heads′ : ℕ) (low : Lowest left s) (reach : Reaching people c (getD dom s 0) 0 crowd) (clear : bitAnd crowd all ≡ 0)
-        (more : Added heads s heads′) where
+    module _ {crowd heads′ : ℕ} (reach : Reaching people c (getD dom s 0) 0 crowd) (clear : bitAnd crowd all ≡ 0) (more : Added heads s heads′) where
       -- a head is the step or was one before
       by-head : {P : Type 0} (u : ℕ) → hasBit heads′ u ≡ true → (u ≡ s → P) → (hasBit heads u ≡ true → P) → P
       by-head u h f g = by-cases (eqb u s) (λ x. f (eqb-true u s x)) (λ x. g (sym (added-other more u (eqb-false u s x)) ∙ h))
 
       outside : (p : ℕ) → p < people → mayIn dom s p ≡ true → hasBit all p ≡ false
-      outside p l h = and-apart crowd all p clear (reach p p l l h (empty-lacks p) refl)
+      outside p l h = and-apart crowd all p clear (reach .has p p l l h (empty-lacks p) refl)
 
       at : (u p : ℕ) → u ≡ s → mayIn dom u p ≡ true → mayIn dom s p ≡ true
       at u p e h = subst (λ (x : ℕ). mayIn dom x p ≡ true) e h
 
       -- the class of somebody of the step's domain is none of those of a head before
       clash : (u p q : ℕ) → hasBit heads u ≡ true → p < people → q < people → mayIn dom u p ≡ true → mayIn dom s q ≡ true → c p ≡ c q → ⊥
-      clash u p q h l m i k e = true-false (w .apart .reaches u h p q l m i (empty-lacks p) e) (outside q m k)
+      clash u p q h l m i k e = true-false (w .apart .reaches u h .has p q l m i (empty-lacks p) e) (outside q m k)
 
-      pub parting-take : Parting left′ (bitOr all crowd) heads′
+      pub parting-take : Parting people c steps used dom left′ (bitOr all crowd) heads′
       parting-take =
           record {
             apart = record {
-              among = λ u h. by-head u h (λ e. subst (λ (x : ℕ). hasBit steps x ≡ true) (sym e) (w .rest s (low .has))) (w .apart .among u);
+              among = λ u h. by-head u h (λ e. subst (λ (x : ℕ). hasBit steps x ≡ true) (sym e) (w .rest s (taken .lowest .has))) (w .apart .among u);
               keeps = λ p h. or-bit all crowd p ∙ or-left (hasBit all p) (hasBit crowd p) (w .apart .keeps p h);
-              reaches = λ u h p q l m i k e.
-                  or-bit all crowd q
-                  ∙ by-head u h
-                  (λ x. or-right (hasBit all q) (hasBit crowd q) (reach p q l m (at u p x i) k e))
-                  (λ x. or-left (hasBit all q) (hasBit crowd q) (w .apart .reaches u x p q l m i k e));
+              reaches = λ u h. record {
+                has = λ p q l m i k e.
+                    or-bit all crowd q
+                    ∙ by-head u h
+                    (λ x. or-right (hasBit all q) (hasBit crowd q) (reach .has p q l m (at u p x i) k e))
+                    (λ x. or-left (hasBit all q) (hasBit crowd q) (w .apart .reaches u x .has p q l m i k e));
+              };
               new = λ u p h l i.
                   by-head u h
                   (λ x. is-false _ (λ k. true-false (w .apart .keeps p k) (outside p l (at u p x i))))
@@ -85,15 +85,8 @@ module _ (people : ℕ) (c : ℕ → ℕ) (steps used : ℕ) (dom : List ℕ) wh
                   (λ x. by-head t k (λ y. d (x ∙ sym y)) (λ y. clash t q p y m l j (at u p x i) (sym e)))
                   (λ x. by-head t k (λ y. clash u p q x l m i (at t q y j) e) (λ y. w .apart .differ u t p q x y d l m i j e));
             };
-            rest = λ u h. w .rest u (removed-was gone u h);
+            rest = λ u h. w .rest u (taken-was taken u h);
           }
-
-pub apart-few : {people : ℕ} {c : ℕ → ℕ} {steps used : ℕ} {dom : List ℕ} {all heads : ℕ} → Apart people c steps used dom all heads → steps < 4096
-    → ones heads ≤ 12
-apart-few {steps = steps} {heads = heads} w l =
-    let below : (s : ℕ) → hasBit heads s ≡ true → s < 12 = λ s h. has-below 12 steps s l (w .among s h) in
-    let small : heads < 2 ^ 12 = bits-below 12 heads below in
-    omega (arith, ones-count 12 heads (omega arith) (omega arith) below, count-le 12 (hasBit heads))
 
 -- where each step of `more` has a class that no step of the part has and no other of `more`, the scope has as many classes more
 pub classes-from : (n : ℕ) (scope part more : ℕ → Bool) (c : ℕ → ℕ) → ((s : ℕ) → s < n → part s ≡ true → scope s ≡ true)

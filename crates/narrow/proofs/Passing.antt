@@ -14,10 +14,10 @@ use Rattle.narrow.proofs.Restricting.{fewer-same, fewer-then}
 takes-valid : (j : Job) (dom : List ℕ) (π : Plan) → Valid j (mayIn dom) π → Takes (j .steps) (j .people) dom π
 takes-valid j dom π v = record { within = v .within; among = v .authorised }
 
-pub narrowed-none : (j : Job) (dom : List ℕ) → length dom ≡ 12 → Narrowed j dom dom true
-narrowed-none j dom e = record { fewer = fewer-same dom e; kept = λ t π v. v; lost = λ t. true-false refl t }
+pub narrowed-none : {j : Job} {dom : List ℕ} → length dom ≡ 12 → Narrowed j dom dom true
+narrowed-none {dom = dom} e = record { fewer = fewer-same dom e; kept = λ t π v. v; lost = λ t. true-false refl t }
 
-module _ (j : Job) (dom dom′ dom″ : List ℕ) (i : ℕ) (below : i < j .rules) (failed : Bool) (w : Narrowed j dom dom′ true)
+module _ {j : Job} {dom dom′ dom″ : List ℕ} (i : ℕ) (below : i < j .rules) {failed : Bool} (w : Narrowed j dom dom′ true)
     (more : Revised j (j .rule i) dom′ dom″ failed) where
   pub narrowed-more : failed ≡ false → Narrowed j dom dom″ true
   narrowed-more e =

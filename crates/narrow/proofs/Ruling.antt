@@ -14,19 +14,17 @@ use borrow.Author.Tests.{eqb-true, eqb-false, eq-eqb, ne-eqb, not-true}
 use Rattle.bits.specs.Below.{count}
 use Rattle.bits.specs.Word.{hasBit}
 use Rattle.bits.proofs.Below.{by-cases, true-false, and-right}
-use Rattle.bits.proofs.Counting.{and-of, is-false, count-le, count-insert}
+use Rattle.bits.proofs.Counting.{and-of, is-false, count-insert}
 use Rattle.bits.proofs.SetLaws.{empty-lacks}
-use Rattle.workflow.specs.Problem.{Rule, Job, Plan, Met, classCount, distinct, Pair}
+use Rattle.workflow.specs.Problem.{Job, Plan, Met, classCount, distinct, Pair}
 use Rattle.workflow.proofs.Occurs.{distinct-scope-mono, distinct-scope-split}
 use Rattle.workflow.proofs.Rules.{distinct-of-pair}
-use Rattle.pattern.specs.Rule.{levelIn, leastIn, mostIn, unpacked}
+use Rattle.pattern.specs.Rule.{levelIn, leastIn, mostIn, scopeIn, unpacked}
 use Rattle.pattern.proofs.Counted.{Adds, distinct-joins, distinct-new}
-use Rattle.pattern.proofs.Same.{distinct-scope-cong}
-use Rattle.narrow.specs.Domains.{Takes, Revised}
+use Rattle.narrow.specs.Domains.{Takes, ForClasses, ForJobs, Revised}
 use Rattle.narrow.specs.Fixing.{settled, Fixing}
-use Rattle.narrow.specs.Narrowing.{Joins, Common, Spared, Restricted, Allowed}
-use Rattle.narrow.specs.Parting.{Apart, Limited}
-use Rattle.narrow.specs.Spreading.{Spread, Short}
+use Rattle.narrow.specs.Narrowing.{SharesWith, Restricted, Hopeless, Allowed}
+use Rattle.narrow.specs.Parting.{Apart}
 use Rattle.bits.proofs.Masks.{or-cases, or-left, or-right, bits-below, ones-count}
 use Rattle.narrow.proofs.Settling.{settled-of, settled-scope, settled-narrow, bound-of}
 use Rattle.narrow.proofs.Spreading.{count-spread}
@@ -62,7 +60,7 @@ one-class n scope c s t l m h k few =
           only = λ u b x y. ap (λ (z : Bool). z || eqb u t) (ne-eqb u s x) ∙ ne-eqb u t y;
         }
 
-module _ (steps people : ℕ) (c : ℕ → ℕ) (scope : ℕ) (dom : List ℕ) (used heads wide : ℕ) (f : Fixing steps people c scope dom 0 used heads wide)
+module _ {steps people : ℕ} {c : ℕ → ℕ} {scope : ℕ} {dom : List ℕ} {used heads wide : ℕ} (f : Fixing steps people c scope dom 0 used heads wide)
     (π : Plan) (takes : Takes steps people dom π) where
   -- between the classes that are had, and one more for each open step
   pub count-from : count steps (hasBit heads) ≤ distinct steps (hasBit scope) (λ u. c (π u))
@@ -142,7 +140,7 @@ module _ (steps people : ℕ) (c : ℕ → ℕ) (scope : ℕ) (dom : List ℕ) (
         omega arith)
 
   -- open steps that are apart
-  module _ (all parts : ℕ) (w : Apart people c wide used dom all parts) where
+  module _ {all parts : ℕ} (w : Apart people c wide used dom all parts) where
     part-of : (s : ℕ) → hasBit parts s ≡ true → (s < steps) × (hasBit scope s ≡ true)
     part-of s h = let o = f .part s (w .among s h) in (o .0, o .1)
 
@@ -174,159 +172,101 @@ module _ (steps people : ℕ) (c : ℕ → ℕ) (scope : ℕ) (dom : List ℕ) (
         (λ s l k. part-of s k .1)
         (λ s u l m k i e. or-cases (settled scope wide 0 u) (eqb u t) i (λ x. unlike-settled s u l m k x e)
         (λ x. true-false
-        (w .reaches s k (π s) (π t) (takes .within s l) (takes .within t (below t is-open)) (takes .among s l) (empty-lacks (π s))
+        (w .reaches s k .has (π s) (π t) (takes .within s l) (takes .within t (below t is-open)) (takes .among s l) (empty-lacks (π s))
         (sym e ∙ ap (λ (z : ℕ). c (π z)) (eqb-true u t x)))
         h))
         unlike-each in
         absurd (omega (arith, brings t is-open (is-false _ (λ k. true-false (w .keeps (π t) k) h)))))
 
--- a rule of a job, and what the domains settle of its count
-pub record Settled (j : Job) (r : Rule) (scope : ℕ) (dom : List ℕ) (used heads wide : ℕ) : Type 0 where
-  pub small : j .steps ≤ 12
-  pub same : (s : ℕ) → r .scope s ≡ hasBit scope s
+-- the rule r in a job, and what the domains settle of its count
+pub record SettledRule (j : Job) (r : ℕ) (dom : List ℕ) (used heads wide : ℕ) : Type 0 where
+  pub few-steps : j .steps ≤ 12
+  pub few-people : j .people ≤ 64
   pub sized : length dom ≡ 12
-  pub fixing : Fixing (j .steps) (j .people) (j .class (r .level)) scope dom 0 used heads wide
+  pub fixing : Fixing (j .steps) (j .people) (j .class (levelIn r)) (scopeIn r) dom 0 used heads wide
 
-module _ {j : Job} {r : Rule} {scope : ℕ} {dom : List ℕ} {used heads wide : ℕ} (w : Settled j r scope dom used heads wide) where
-  f : Fixing (j .steps) (j .people) (j .class (r .level)) scope dom 0 used heads wide
+-- what is settled of a scope at a level is settled of the rule in every job that can have it
+pub settled-rule : {crowd : List ℕ} {r level scope : ℕ} {dom : List ℕ} {used heads wide : ℕ} → level ≡ levelIn r → scope ≡ scopeIn r → length dom ≡ 12
+    → ((steps : ℕ) → scope < 2 ^ steps → ForClasses crowd level (λ people c. Fixing steps people c scope dom 0 used heads wide))
+    → ForJobs crowd r (λ j. SettledRule j r dom used heads wide)
+settled-rule e d sized fixing size rule at =
+    let f = rw (e, d) at fixing in
+    record { few-steps = at .few-steps; few-people = at .grouped .few; sized = sized; fixing = f (size .steps) (at .scoped) (size .people) (at .grouped) }
+
+module _ {j : Job} {r : ℕ} {dom : List ℕ} {used heads wide : ℕ} (w : SettledRule j r dom used heads wide) where
+  f : Fixing (j .steps) (j .people) (j .class (levelIn r)) (scopeIn r) dom 0 used heads wide
   f = w .fixing
 
-  heads-count : ones heads ≡ count (j .steps) (hasBit heads)
-  heads-count =
-      ones-count (j .steps) heads (omega (arith, w .small))
-      (let z : heads < 2 ^ 12 = bits-below 12 heads (λ s h. omega (arith, w .small, f .few s h)) in omega arith) (f .few)
+  -- the machine's count of some of the steps
+  counts : (m : ℕ) → ((s : ℕ) → hasBit m s ≡ true → s < j .steps) → ones m ≡ count (j .steps) (hasBit m)
+  counts m below =
+      let z : m < 2 ^ 12 = bits-below 12 m (λ s h. omega (arith, w .few-steps, below s h)) in
+      ones-count (j .steps) m (omega (arith, w .few-steps)) (omega arith) below
 
-  wide-below : (s : ℕ) → hasBit wide s ≡ true → s < j .steps
-  wide-below s h = f .part s h .0
+  pub heads-count : ones heads ≡ count (j .steps) (hasBit heads)
+  heads-count = counts heads (f .few)
 
-  pub wide-small : wide < 4096
-  wide-small = bits-below 12 wide (λ s h. omega (arith, w .small, wide-below s h))
+  wide-in : (s : ℕ) → hasBit wide s ≡ true → s < j .steps
+  wide-in s h = f .part s h .0
 
   wide-count : ones wide ≡ count (j .steps) (hasBit wide)
-  wide-count = ones-count (j .steps) wide (omega (arith, w .small)) (omega (arith, wide-small)) wide-below
+  wide-count = counts wide wide-in
 
-  pub heads-few : ones heads ≤ 12
-  heads-few = omega (arith, w .small, heads-count, count-le (j .steps) (hasBit heads))
+  parts-count : {all parts : ℕ} → Apart (j .people) (j .class (levelIn r)) wide used dom all parts → ones parts ≡ count (j .steps) (hasBit parts)
+  parts-count {parts = parts} a = counts parts (λ s h. wide-in s (a .among s h))
 
-  pub wide-few : ones wide ≤ 12
-  wide-few = omega (arith, w .small, wide-count, count-le (j .steps) (hasBit wide))
+  module _ (π : Plan) (met : Met j (unpacked r) π) (takes : Takes (j .steps) (j .people) dom π) where
+    at-most : (t : ℕ) → hasBit wide t ≡ true → ones heads ≡ mostIn r → hasBit used (π t) ≡ true
+    at-most t h e = joins-used f π takes t h (omega (arith, heads-count, met .most))
 
-  parts-count : (all parts : ℕ) → Apart (j .people) (j .class (r .level)) wide used dom all parts → ones parts ≡ count (j .steps) (hasBit parts)
-  parts-count all parts a =
-      let b : (s : ℕ) → hasBit parts s ≡ true → s < j .steps = λ s h. wide-below s (a .among s h) in
-      let z : parts < 2 ^ 12 = bits-below 12 parts (λ s h. omega (arith, w .small, b s h)) in
-      ones-count (j .steps) parts (omega (arith, w .small)) (omega arith) b
+    at-least : (t : ℕ) → hasBit wide t ≡ true → ones heads + ones wide ≡ leastIn r → hasBit used (π t) ≡ false
+    at-least t h e = avoids-used f π takes t h (omega (arith, heads-count, wide-count, met .least))
 
-  module _ (π : Plan) (met : Met j r π) (takes : Takes (j .steps) (j .people) dom π) where
-    counted : classCount j r π ≡ distinct (j .steps) (hasBit scope) (λ u. j .class (r .level) (π u))
-    counted = distinct-scope-cong (j .steps) (r .scope) (hasBit scope) (λ u. j .class (r .level) (π u)) (λ u l. w .same u)
+    module _ {all parts : ℕ} (a : Apart (j .people) (j .class (levelIn r)) wide used dom all parts) where
+      from-apart : ones heads + ones parts ≤ classCount j (unpacked r) π
+      from-apart = omega (arith, heads-count, parts-count a, count-apart f π takes a)
 
-    from-least : r .least ≤ distinct (j .steps) (hasBit scope) (λ u. j .class (r .level) (π u))
-    from-least = omega (arith, counted, met .least)
-
-    to-most : distinct (j .steps) (hasBit scope) (λ u. j .class (r .level) (π u)) ≤ r .most
-    to-most = omega (arith, counted, met .most)
-
-    from-heads : ones heads ≤ distinct (j .steps) (hasBit scope) (λ u. j .class (r .level) (π u))
-    from-heads = omega (arith, heads-count, count-from (j .steps) (j .people) (j .class (r .level)) scope dom used heads wide f π takes)
-
-    to-wide : distinct (j .steps) (hasBit scope) (λ u. j .class (r .level) (π u)) ≤ ones heads + ones wide
-    to-wide = omega (arith, heads-count, wide-count, count-to (j .steps) (j .people) (j .class (r .level)) scope dom used heads wide f π takes)
-
-    to-spread : (number : ℕ) → Spread (j .people) (j .class (r .level)) wide used dom number
-        → distinct (j .steps) (hasBit scope) (λ u. j .class (r .level) (π u)) ≤ ones heads + number
-    to-spread number s =
-        omega (arith, heads-count, count-spread (j .steps) (j .people) (j .class (r .level)) scope dom used heads wide number f s π takes)
-
-    at-most : (t : ℕ) → hasBit wide t ≡ true → ones heads ≡ r .most → hasBit used (π t) ≡ true
-    at-most t h e =
-        joins-used (j .steps) (j .people) (j .class (r .level)) scope dom used heads wide f π takes t h (omega (arith, heads-count, to-most))
-
-    at-least : (t : ℕ) → hasBit wide t ≡ true → ones heads + ones wide ≡ r .least → hasBit used (π t) ≡ false
-    at-least t h e =
-        avoids-used (j .steps) (j .people) (j .class (r .level)) scope dom used heads wide f π takes t h (omega (arith, heads-count, wide-count, from-least))
-
-    module _ (all parts : ℕ) (a : Apart (j .people) (j .class (r .level)) wide used dom all parts) where
-      from-apart : ones heads + ones parts ≤ distinct (j .steps) (hasBit scope) (λ u. j .class (r .level) (π u))
-      from-apart =
-          omega
-          (arith, heads-count, parts-count all parts a, count-apart (j .steps) (j .people) (j .class (r .level)) scope dom used heads wide f π takes all parts a)
-
-      at-limit : (t : ℕ) → hasBit wide t ≡ true → ones heads + ones parts ≡ r .most → hasBit all (π t) ≡ true
-      at-limit t h e =
-          joins-all (j .steps) (j .people) (j .class (r .level)) scope dom used heads wide f π takes all parts a t h
-          (omega (arith, heads-count, parts-count all parts a, to-most))
+      at-limit : (t : ℕ) → hasBit wide t ≡ true → ones heads + ones parts ≡ mostIn r → hasBit all (π t) ≡ true
+      at-limit t h e = joins-all f π takes a t h (omega (arith, heads-count, parts-count a, met .most))
 
     -- with one class, somebody of each open step is of the class of t
-    at-one : (t : ℕ) → hasBit wide t ≡ true → r .most ≡ 1
-        → (s : ℕ) → hasBit wide s ≡ true → Joins (j .people) (j .class (r .level)) dom s (π t)
+    at-one : (t : ℕ) → hasBit wide t ≡ true → mostIn r ≡ 1 → (s : ℕ) → hasBit wide s ≡ true → SharesWith (j .people) (j .class (levelIn r)) dom s (π t)
     at-one t h e s k =
         let a = f .part s k in
         let b = f .part t h in (
           π s,
           takes .within s (a .0),
           takes .among s (a .0),
-          one-class (j .steps) (hasBit scope) (λ u. j .class (r .level) (π u)) s t (a .0) (b .0) (a .1) (b .1) (omega (arith, to-most)),
+          one-class (j .steps) (hasBit (scopeIn r)) (λ u. j .class (levelIn r) (π u)) s t (a .0) (b .0) (a .1) (b .1) (omega (arith, met .most)),
         )
 
+    -- too many classes are had, or too few can be
+    unmet : Hopeless (j .people) (j .class (levelIn r)) r wide used dom (ones heads) (ones wide) → ⊥
+    unmet (inl many) = omega (arith, heads-count, count-from f π takes, met .most)
+    unmet (inr (inl few)) = omega (arith, heads-count, wide-count, count-to f π takes, met .least)
+    unmet (inr (inr short)) = omega (arith, heads-count, short .less, count-spread f (short .spread) π takes, met .least)
+
+    -- the open steps have only such people
+    such : {crew : ℕ} → Allowed (j .people) (j .class (levelIn r)) r wide used dom (ones heads) (ones wide) crew → (t : ℕ) → hasBit wide t ≡ true → hasBit crew (π t) ≡ true
+    such (inl one) t h = one .1 (π t) (takes .within t (wide-in t h)) (λ s k _. at-one t h (one .0) s k)
+    such (inr (inl l)) t h =
+        l .has (π t) (omega (arith, w .few-people, takes .within t (wide-in t h))) (omega (arith, from-apart (l .apart), met .most))
+        (λ x. at-limit (l .apart) t h x)
+    such (inr (inr only)) t h = only (π t) (omega (arith, w .few-people, takes .within t (wide-in t h))) (at-most t h) (at-least t h)
+
   -- no plan of the domains meets the rule
-  hopeless : ((π : Plan) → Met j r π → Takes (j .steps) (j .people) dom π → ⊥) → Revised j r dom dom true
-  hopeless no-plan = record { fewer = fewer-same dom (w .sized); kept = λ t. true-false refl t; lost = λ t. no-plan }
+  pub revised-lost : Hopeless (j .people) (j .class (levelIn r)) r wide used dom (ones heads) (ones wide) → Revised j (unpacked r) dom dom true
+  revised-lost h = record { fewer = fewer-same dom (w .sized); kept = λ t. true-false refl t; lost = λ t π met takes. unmet π met takes h }
 
-  pub too-many : (most : ℕ) → most ≡ r .most → most < ones heads → Revised j r dom dom true × (0 < 4096)
-  too-many most e l = (hopeless (λ π met takes. omega (arith, from-heads π met takes, to-most π met takes)), omega arith)
-
-  pub too-few : (least : ℕ) → least ≡ r .least → ones heads + ones wide < least → Revised j r dom dom true × (0 < 4096)
-  too-few least e l = (hopeless (λ π met takes. omega (arith, to-wide π met takes, from-least π met takes)), omega arith)
-
-  pub too-short : (least : ℕ) → least ≡ r .least → Short (j .people) (j .class (r .level)) wide used dom (ones heads) least
-      → Revised j r dom dom true × (0 < 4096)
-  too-short least e s = (hopeless (λ π met takes. omega (arith, s .less, to-spread π met takes (s .number) (s .spread), from-least π met takes)), omega arith)
-
-  module _ {crew : ℕ} {dom′ : List ℕ} {failed : Bool} {changed : ℕ} (cut : Restricted wide crew dom dom′ failed changed) where
-    -- the open steps of every plan that meets the rule have only such people
-    by-people : ((π : Plan) → Met j r π → Takes (j .steps) (j .people) dom π → (t : ℕ) → hasBit wide t ≡ true → hasBit crew (π t) ≡ true)
-        → Revised j r dom dom′ failed × (changed < 4096)
-    by-people such = (
+  -- the open steps are left only such people
+  pub revised : {crew : ℕ} {dom′ : List ℕ} {failed : Bool} {changed : ℕ} → Restricted wide crew dom dom′ failed changed
+      → Allowed (j .people) (j .class (levelIn r)) r wide used dom (ones heads) (ones wide) crew → Revised j (unpacked r) dom dom′ failed
+  revised cut ok =
       record {
         fewer = cut .done .fewer;
         kept = λ e π met takes.
-            record {
-              within = takes .within;
-              among = λ s l. cut .done .keeps s (π s) (takes .among s l) (λ h. such π met takes s h);
-            };
+            record { within = takes .within; among = λ s l. cut .done .keeps s (π s) (takes .among s l) (λ h. such π met takes ok s h) };
         lost = λ e π met takes.
             let o = cut .lost e in
-            o .2 (π (o .0)) (takes .among (o .0) (wide-below (o .0) (o .1))) (such π met takes (o .0) (o .1));
-      },
-      bits-below 12 changed (λ s h. omega (arith, w .small, wide-below s (cut .done .among s h))),
-    )
-
-    pub with-common : (most : ℕ) → most ≡ r .most → most ≡ 1 → Common (j .people) (j .class (r .level)) wide dom 0 crew
-        → Revised j r dom dom′ failed × (changed < 4096)
-    with-common most e one common =
-        by-people
-        (λ π met takes t h. common (π t) (takes .within t (wide-below t h)) (λ s k _. at-one π met takes t h (omega arith) s k))
-
-    pub with-upper : (most : ℕ) → most ≡ r .most → j .people ≤ 64
-        → Limited (j .people) (j .class (r .level)) wide used dom (ones heads) most crew → Revised j r dom dom′ failed × (changed < 4096)
-    with-upper most e few l =
-        by-people
-        (λ π met takes t h. l .has (π t) (omega (arith, takes .within t (wide-below t h)))
-        (omega (arith, from-apart π met takes (l .all) (l .heads) (l .apart), to-most π met takes))
-        (λ x. at-limit π met takes (l .all) (l .heads) (l .apart) t h (x ∙ e)))
-
-    pub with-left : (least most : ℕ) → least ≡ r .least → most ≡ r .most → j .people ≤ 64
-        → Spared used (ones heads) (ones wide) least most crew → Revised j r dom dom′ failed × (changed < 4096)
-    with-left least most d e few spared =
-        by-people
-        (λ π met takes t h. spared (π t) (omega (arith, takes .within t (wide-below t h)))
-        (λ x. at-most π met takes t h (x ∙ e)) (λ x. at-least π met takes t h (x ∙ d)))
-
--- by whichever of the three it is
-pub with-allowed : {j : Job} (rule : ℕ) {scope : ℕ} {dom : List ℕ} {used heads wide : ℕ} (w : Settled j (unpacked rule) scope dom used heads wide) {crew : ℕ} {dom′ : List ℕ}
-    {failed : Bool} {changed : ℕ} → Restricted wide crew dom dom′ failed changed → j .people ≤ 64
-    → Allowed (j .people) (j .class (levelIn rule)) rule wide used dom (ones heads) (ones wide) crew → Revised j (unpacked rule) dom dom′ failed × (changed < 4096)
-with-allowed {j} rule w cut few (inl one) = with-common w cut (mostIn rule) refl (one .0) (one .1)
-with-allowed {j} rule w cut few (inr (inl limited)) = with-upper w cut (mostIn rule) refl few limited
-with-allowed {j} rule w cut few (inr (inr spared)) = with-left w cut (leastIn rule) (mostIn rule) refl refl few spared
+            o .2 (π (o .0)) (takes .among (o .0) (wide-in (o .0) (o .1))) (such π met takes ok (o .0) (o .1));
+      }

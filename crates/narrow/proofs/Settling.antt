@@ -3,16 +3,16 @@
 use mathlib.Core.Bool.{Bool, true, false, not, _&&_}
 use mathlib.Core.List.{List}
 use mathlib.Core.Path.{_≡_, refl, sym, subst, ap, _∙_}
-use Prim.Native.Nat.{ℕ, zero, suc, _+_, _*_, _-_, _%_, _^_, _≤_, _<_}
+use Prim.Native.Nat.{ℕ, zero, suc, _+_, _^_, _≤_, _<_}
 use native.Mathlib.Omega.{arith}
-use native.Mathlib.Nat.{not-suc-le-zero, mod-eq-of-lt}
+use native.Mathlib.Nat.{not-suc-le-zero}
 use lib.Bits.{bitAnd, bitOr}
 use lib.Dec.{eqb, ltb}
 use lib.ListN.{getD}
-use borrow.Author.Tests.{eqb-true, eqb-false, eq-eqb, lt-ltb, ltb-true, ltb-false, not-true}
+use borrow.Author.Tests.{eqb-true, eqb-false, ltb-true, ltb-false, not-true}
 use Rattle.bits.specs.Below.{count}
 use Rattle.bits.specs.Word.{hasBit}
-use Rattle.bits.specs.Set.{Added, Removed, Lowest}
+use Rattle.bits.specs.Set.{Added, Removed, Lowest, FirstAndRest}
 use Rattle.bits.proofs.Below.{by-cases, true-false, below-suc, and-left, and-right}
 use Rattle.bits.proofs.Counting.{and-of, is-false, bool-ext, count-none, count-insert}
 use Rattle.bits.proofs.SetLaws.{and-bit-left, and-bit-right, or-bit, empty-lacks, has-below, and-apart, added-has, added-other, removed-lacks, removed-other, removed-was, removed-differs}
@@ -20,60 +20,63 @@ use Rattle.workflow.specs.Problem.{Plan, distinct}
 use Rattle.workflow.proofs.Counts.{distinct-le-scope}
 use Rattle.pattern.proofs.Counted.{Adds, distinct-joins, distinct-new}
 use Rattle.pattern.proofs.Same.{distinct-scope-cong}
-use Rattle.pattern.specs.Tables.{classIn, jobIn}
+use Rattle.pattern.specs.Rule.{levelIn}
 use Rattle.pattern.specs.declared.Size.{Size}
 use Rattle.pattern.specs.Given.{Given}
-use Rattle.pattern.specs.Realize.{leader}
-use Rattle.pattern.proofs.Leader.{leader-below}
-use Rattle.levels.specs.Tabled.{Gathered}
-use Rattle.narrow.specs.Domains.{Takes, Crowd, AtLevel}
+use Rattle.narrow.specs.Domains.{Takes, Crowd, OneLevel, Grouped, ForClasses, RuleAt}
 use Rattle.narrow.specs.Fixing.{Shared, settled, Fixing}
-use Rattle.bits.proofs.Masks.{or-cases, or-left, or-right, some-bit}
+use Rattle.bits.proofs.Masks.{or-cases, or-left, or-right, bits-below, some-bit}
 
 -- ---- the class that a domain shares
 
--- the classes of a level, as the table of their people has them
-pub at-level : {size : Size} {class crowd rule : List ℕ} → Given size class rule → Gathered (size .people) (size .levels) class crowd
-    → (level : ℕ) → 1 ≤ level → level ≤ size .levels → AtLevel (size .people) class crowd level
-at-level {size} {class} {crowd} {rule} given gathered level from to =
-    record {
-      few-people = given .few-people;
-      classes = given .classes;
-      crowds = gathered .sized;
-      from = from;
-      to = omega (arith, given .ruled .few-levels);
-      each = λ p l. record {
-        has = λ p′ m e. gathered .has (level - 1) p p′ (omega arith) l m (ap (λ (v : ℕ). v % 64) e);
-        only = λ p′ h.
-            let o = gathered .only (level - 1) p p′ (omega arith) l h in
-            (o .0, sym (mod-eq-of-lt (small p′ (o .0))) ∙ o .1 ∙ mod-eq-of-lt (small p l));
-      };
-    }
-  where
-    -- a class is named by one of the people
-    small : (p : ℕ) → p < size .people → classIn class level p < 64
-    small p l =
-        let e : classIn class level p ≡ leader (jobIn size class rule) level p = given .leaders level p from to l in
-        let f : leader (jobIn size class rule) level p < size .people = leader-below (jobIn size class rule) level p l in
-        omega (arith, given .few-people)
+-- the classes of nobody
+pub nobody : (c : ℕ → ℕ) → Grouped 0 c
+nobody c = record { few = omega arith; each = λ p l. absurd (not-suc-le-zero l) }
 
-pub crowd-cong : (people : ℕ) (c : ℕ → ℕ) (p q r : ℕ) → c p ≡ c q → Crowd people c p r → Crowd people c q r
-crowd-cong people c p q r e w =
+-- the same level by another name
+pub at-level : (crowd : List ℕ) (P : ℕ → (ℕ → ℕ) → Type 0) {q level : ℕ} → q ≡ level → ForClasses crowd q P → ForClasses crowd level P
+at-level crowd P e w = subst (λ (x : ℕ). ForClasses crowd x P) e w
+
+module _ {size : Size} {crowd rule : List ℕ} (given : Given size crowd rule) (i : ℕ) (l : i < size .rules) where
+  -- the level of a rule
+  pub level-of : OneLevel crowd (levelIn (getD rule i 0))
+  level-of =
+      let ok = given .ruled .rule-ok i l in
+      record { sized = given .crowds .sized; from = ok .from; to = omega (arith, given .ruled .few-levels, ok .to) }
+
+  -- the table has the classes of that level
+  pub rule-at : RuleAt size crowd (getD rule i 0)
+  rule-at =
+      let ok = given .ruled .rule-ok i l in
+      record {
+        few-steps = given .ruled .few-steps;
+        scoped = given .ruled .scopes i l;
+        grouped = record {
+          few = given .few-people;
+          each = λ p m.
+              record {
+                has = λ p′ k e. given .crowds .has _ p p′ (ok .from) (ok .to) m k e;
+                only = λ p′ h. given .crowds .only _ p p′ (ok .from) (ok .to) m h;
+              };
+        };
+      }
+
+crowd-cong : {people : ℕ} {c : ℕ → ℕ} {p q r : ℕ} → c p ≡ c q → Crowd people c p r → Crowd people c q r
+crowd-cong e w =
     record {
       has = λ p′ l d. w .has p′ l (d ∙ sym e);
       only = λ p′ h. let o = w .only p′ h in (o .0, o .1 ∙ e);
     }
 
 -- the lowest of the domain shares its class with all
-pub shared-all : (people : ℕ) (c mask : ℕ → ℕ) (domain low : ℕ) → ((p : ℕ) → p < people → Crowd people c p (mask p)) → Lowest domain low
-    → bitAnd domain (mask low) ≡ domain → Shared people c domain (mask low)
-shared-all people c mask domain low each lowest e some p l h =
+pub shared-all : {people : ℕ} {c : ℕ → ℕ} → Grouped people c → {domain low : ℕ} → Lowest domain low → (mask : ℕ) → mask ≡ c low
+    → bitAnd domain mask ≡ domain → Shared people c domain mask
+shared-all {people} {c} g {domain} {low} lowest mask its e some p l h =
     by-cases (ltb low people)
     (λ t.
-    let k : low < people = ltb-true low people t in
-    let w = each low k in
-    let o = w .only p (and-bit-right domain (mask low) p (ap (λ (x : ℕ). hasBit x p) e ∙ h)) in
-    crowd-cong people c low p (mask low) (sym (o .1)) w)
+    let w : Crowd people c low mask = rw its (g .each low (ltb-true low people t)) in
+    let o = w .only p (and-bit-right domain mask p (ap (λ (x : ℕ). hasBit x p) e ∙ h)) in
+    crowd-cong (sym (o .1)) w)
     (λ t. true-false h (lowest .before p (let z : people ≤ low = ltb-false low people t in omega arith)))
 
 -- ---- the settled steps
@@ -106,7 +109,7 @@ pub record Settling (steps people : ℕ) (c : ℕ → ℕ) (scope : ℕ) (dom : 
   pub rest : (s : ℕ) → hasBit left s ≡ true → (s < steps) × (hasBit scope s ≡ true)
   pub fresh : (s : ℕ) → hasBit left s ≡ true → hasBit heads s ≡ false
 
-module _ (steps people : ℕ) (c : ℕ → ℕ) (scope : ℕ) (dom : List ℕ) where
+module _ {steps people : ℕ} {c : ℕ → ℕ} {scope : ℕ} {dom : List ℕ} where
   pub settling-none : scope < 2 ^ steps → Settling steps people c scope dom scope 0 0 0
   settling-none small = start
     where
@@ -133,8 +136,13 @@ module _ (steps people : ℕ) (c : ℕ → ℕ) (scope : ℕ) (dom : List ℕ) w
             fresh = λ s h. empty-lacks s;
           }
 
-  module _ (left used heads wide s left′ : ℕ) (w : Settling steps people c scope dom left used heads wide) (low : Lowest left s)
-      (gone : Removed left s left′) where
+  module _ {left used heads wide s left′ : ℕ} (w : Settling steps people c scope dom left used heads wide) (taken : FirstAndRest left s left′) where
+    low : Lowest left s
+    low = taken .lowest
+
+    gone : Removed left s left′
+    gone = taken .removed
+
     still : (u : ℕ) → hasBit left u ≡ false → hasBit left′ u ≡ false
     still u h = is-false _ (λ t. true-false (removed-was gone u t) h)
 
@@ -145,7 +153,7 @@ module _ (steps people : ℕ) (c : ℕ → ℕ) (scope : ℕ) (dom : List ℕ) w
     rest′ u h = w .rest u (removed-was gone u h)
 
     -- the step can still have several classes
-    module _ (wide′ : ℕ) (more : Added wide s wide′) where
+    module _ {wide′ : ℕ} (more : Added wide s wide′) where
       same : (u : ℕ) → settled scope wide left u ≡ settled scope wide′ left′ u
       same u =
           bool-ext _ _
@@ -200,9 +208,9 @@ module _ (steps people : ℕ) (c : ℕ → ℕ) (scope : ℕ) (dom : List ℕ) w
     shrinks u d h = adds .others u d ∙ h
 
     -- all its people share a class
-    module _ (crowd : ℕ) (sure : (p : ℕ) → p < people → hasBit (getD dom s 0) p ≡ true → Crowd people c p crowd) where
+    module _ {crowd : ℕ} (some : crowd ≡ 0 → ⊥) (shared : Shared people c (getD dom s 0) crowd) where
       of-plan : (π : Plan) → Takes steps people dom π → Crowd people c (π s) crowd
-      of-plan π t = let l = w .rest s (low .has) .0 in sure (π s) (t .within s l) (t .among s l)
+      of-plan π t = let l = w .rest s (low .has) .0 in shared some (π s) (t .within s l) (t .among s l)
 
       part′ : (u : ℕ) → hasBit wide u ≡ true → (u < steps) × (hasBit scope u ≡ true) × (hasBit left′ u ≡ false)
       part′ u h = let r = w .fixing .part u h in (r .0, r .1, still u (r .2))
@@ -239,8 +247,8 @@ module _ (steps people : ℕ) (c : ℕ → ℕ) (scope : ℕ) (dom : List ℕ) w
               (v .0, v .1, v .2, sym (v .3) ∙ o .1)
 
       -- which is new
-      pub settling-new : bitAnd used crowd ≡ 0 → (heads′ : ℕ) → Added heads s heads′ → Settling steps people c scope dom left′ (bitOr used crowd) heads′ wide
-      settling-new meets heads′ more =
+      pub settling-new : bitAnd used crowd ≡ 0 → {heads′ : ℕ} → Added heads s heads′ → Settling steps people c scope dom left′ (bitOr used crowd) heads′ wide
+      settling-new meets {heads′} more =
           record {
             fixing = record {
               few = λ u h.
@@ -274,14 +282,18 @@ module _ (steps people : ℕ) (c : ℕ → ℕ) (scope : ℕ) (dom : List ℕ) w
               true-false (of-plan π t .has (π s) k refl)
               (and-apart used crowd (π s) meets (w .fixing .classes-of π t (π s) u k l h (sym e)))
 
-  pub settling-all : (left used heads wide : ℕ) → Settling steps people c scope dom left used heads wide → left ≡ 0
+  pub settling-all : {left used heads wide : ℕ} → Settling steps people c scope dom left used heads wide → left ≡ 0
       → Fixing steps people c scope dom 0 used heads wide
-  settling-all left used heads wide w e = subst (λ (x : ℕ). Fixing steps people c scope dom x used heads wide) e (w .fixing)
+  settling-all {used = used} {heads = heads} {wide = wide} w e = subst (λ (x : ℕ). Fixing steps people c scope dom x used heads wide) e (w .fixing)
+
+  -- the open steps are of the steps
+  pub wide-below : {left used heads wide : ℕ} → Fixing steps people c scope dom left used heads wide → wide < 2 ^ steps
+  wide-below {wide = wide} f = bits-below steps wide (λ s h. f .part s h .0)
 
   -- where no step of the scope is open, the heads are as many as its classes in every plan of the domains
-  pub settled-count : (used heads : ℕ) → Fixing steps people c scope dom 0 used heads 0 → (π : Plan) → Takes steps people dom π
+  pub settled-count : {used heads : ℕ} → Fixing steps people c scope dom 0 used heads 0 → (π : Plan) → Takes steps people dom π
       → count steps (hasBit heads) ≡ distinct steps (hasBit scope) (λ s. c (π s))
-  settled-count used heads f π t =
+  settled-count f π t =
       f .number π t
       ∙ distinct-scope-cong steps (settled scope 0 0) (hasBit scope) (λ s. c (π s))
       (λ s l. bool-ext _ _ (settled-scope scope 0 0 s) (λ h. settled-of scope 0 0 s h (empty-lacks s) (empty-lacks s)))

@@ -12,91 +12,82 @@ use lib.ListN.{getD}
 use borrow.Author.Tests.{eqb-true, eqb-false}
 use Rattle.bits.specs.Below.{count}
 use Rattle.bits.specs.Word.{hasBit}
-use Rattle.bits.specs.Set.{Added, Removed, Lowest}
+use Rattle.bits.specs.Set.{Added, FirstAndRest}
 use Rattle.bits.proofs.Below.{by-cases, true-false}
-use Rattle.bits.proofs.Counting.{and-of, is-false, count-le, count-split}
+use Rattle.bits.proofs.Counting.{and-of, is-false, count-split}
 use Rattle.bits.proofs.Ones.{ones-bits}
-use Rattle.bits.proofs.SetLaws.{and-bit, or-bit, empty-lacks, added-has, added-keeps, added-other, removed-other, removed-was}
+use Rattle.bits.proofs.SetLaws.{and-bit, or-bit, empty-lacks, added-has, added-keeps, added-other, removed-other}
 use Rattle.workflow.specs.Problem.{Plan, distinct}
 use Rattle.workflow.proofs.Counts.{distinct-le-scope}
 use Rattle.workflow.proofs.Occurs.{occurs, occurs-of, occurs-at, distinct-occurs}
-use Rattle.pattern.specs.Tables.{classIn, mayIn}
-use Rattle.narrow.specs.Domains.{Takes, Crowd}
+use Rattle.pattern.specs.Tables.{mayIn}
+use Rattle.narrow.specs.Domains.{Takes, Grouped}
 use Rattle.narrow.specs.Fixing.{settled, Fixing}
-use Rattle.narrow.specs.Spreading.{Anybody, Firsts, Spread}
+use Rattle.narrow.specs.Spreading.{AllOf, Firsts, Spread}
 use Rattle.bits.proofs.Masks.{xor-all, bits-below, or-left, or-right}
 use Rattle.narrow.proofs.Reach.{of-crowd}
 use Rattle.narrow.proofs.Settling.{settled-of, bound-of}
 
--- ---- everybody of some domains
+-- ---- all that some sets have
 
-module _ (steps : ℕ) (dom : List ℕ) where
-  -- the steps left are of the steps, and the people of the others are found
-  pub record Joining (left found : ℕ) : Type 0 where
-    pub rest : (s : ℕ) → hasBit left s ≡ true → hasBit steps s ≡ true
-    pub found-all : Anybody steps dom left found
+module _ {steps : ℕ} {sets : List ℕ} where
+  pub all-none : AllOf steps sets steps 0
+  all-none = record { has = λ s p h k. true-false h k }
 
-  pub anybody-none : Joining steps 0
-  anybody-none = record { rest = λ s h. h; found-all = λ s p h k. true-false h k }
-
-  pub anybody-more : (left found s left′ : ℕ) → Joining left found → Lowest left s → Removed left s left′ → Joining left′ (bitOr found (getD dom s 0))
-  anybody-more left found s left′ w low gone =
+  pub all-more : {left found s left′ : ℕ} → AllOf steps sets left found → FirstAndRest left s left′ → AllOf steps sets left′ (bitOr found (getD sets s 0))
+  all-more {found = found} {s = s} w t =
       record {
-        rest = λ u h. w .rest u (removed-was gone u h);
-        found-all = λ u p h k t.
-            or-bit found (getD dom s 0) p
+        has = λ u p h k i.
+            or-bit found (getD sets s 0) p
             ∙ by-cases (eqb u s)
-            (λ x. or-right (hasBit found p) _ (subst (λ (y : ℕ). mayIn dom y p ≡ true) (eqb-true u s x) t))
-            (λ x. or-left (hasBit found p) _ (w .found-all u p h (sym (removed-other gone u (eqb-false u s x)) ∙ k) t));
+            (λ x. or-right (hasBit found p) _ (subst (λ (y : ℕ). mayIn sets y p ≡ true) (eqb-true u s x) i))
+            (λ x. or-left (hasBit found p) _ (w .has u p h (sym (removed-other (t .removed) u (eqb-false u s x)) ∙ k) i));
       }
 
-  pub anybody-all : (left found : ℕ) → Joining left found → left ≡ 0 → Anybody steps dom 0 found
-  anybody-all left found w e = subst (λ (x : ℕ). Anybody steps dom x found) e (w .found-all)
+  pub all-done : {left found : ℕ} → AllOf steps sets left found → left ≡ 0 → AllOf steps sets 0 found
+  all-done {found = found} w e = subst (λ (x : ℕ). AllOf steps sets x found) e w
 
 -- ---- one person for each class
 
-module _ (people : ℕ) (c mask : ℕ → ℕ) (domain : ℕ) where
+module _ {people : ℕ} {c : ℕ → ℕ} {domain : ℕ} where
   pub firsts-none : Firsts people c domain domain 0
   firsts-none = record { few = λ p h. true-false h (empty-lacks p); each = λ p l h k. true-false h k }
 
-  pub firsts-more : people ≤ 64 → ((p : ℕ) → p < people → Crowd people c p (mask p)) → (left p rest found found′ : ℕ)
-      → Firsts people c domain left found → p < 64 → Lowest left p → Removed left p rest → Added found p found′
-      → Firsts people c domain (bitAnd rest (bitXor (mask p) 18446744073709551615)) found′
-  firsts-more few crowded left p rest found found′ w b low gone more =
-      record {
+  pub firsts-more : Grouped people c → {left p rest found found′ mask : ℕ} → mask ≡ c p → Firsts people c domain left found → p < 64
+      → FirstAndRest left p rest → Added found p found′ → Firsts people c domain (bitAnd rest (bitXor mask 18446744073709551615)) found′
+  firsts-more g {left} {p} {rest} {found} {found′} e w b t more =
+      subst (λ (m : ℕ). Firsts people c domain (bitAnd rest (bitXor m 18446744073709551615)) found′) (sym e)
+      (record {
         few = λ u h.
             by-cases (eqb u p)
             (λ x. subst (λ (y : ℕ). y < 64) (sym (eqb-true u p x)) b)
             (λ x. w .few u (sym (added-other more u (eqb-false u p x)) ∙ h));
         each = λ u l h k.
             by-cases (hasBit left u)
-            (λ t. let o = of-crowd people c mask domain few crowded left p rest low gone u l t k in (p, b, added-has more, sym (o .1)))
-            (λ t. let o = w .each u l h t in (o .0, o .1, added-keeps more (o .0) (o .2), o .3));
-      }
+            (λ x. let o = of-crowd g t u l x k in (p, b, added-has more, sym (o .1)))
+            (λ x. let o = w .each u l h x in (o .0, o .1, added-keeps more (o .0) (o .2), o .3));
+      })
 
-  pub firsts-all : (left found : ℕ) → left ≡ 0 → Firsts people c domain left found → Firsts people c domain 0 found
-  firsts-all left found z w = subst (λ (x : ℕ). Firsts people c domain x found) z w
+  pub firsts-all : {left found : ℕ} → left ≡ 0 → Firsts people c domain left found → Firsts people c domain 0 found
+  firsts-all {found = found} z w = subst (λ (x : ℕ). Firsts people c domain x found) z w
 
 -- ---- their number
 
 pub ones-all : (x : ℕ) → ((p : ℕ) → hasBit x p ≡ true → p < 64) → ones x ≡ count 64 (hasBit x)
 ones-all x h = ones-bits 64 x (bits-below 64 x h)
 
-pub spread-of : (people : ℕ) (c : ℕ → ℕ) (steps used : ℕ) (dom : List ℕ) (all found : ℕ) → people ≤ 64 → Anybody steps dom 0 all
+pub spread-of : {people : ℕ} {c : ℕ → ℕ} {steps used : ℕ} {dom : List ℕ} {all found : ℕ} → Grouped people c → AllOf steps dom 0 all
     → Firsts people c (bitAnd all (bitXor used 18446744073709551615)) 0 found → Spread people c steps used dom (ones found)
-spread-of people c steps used dom all found few a w =
+spread-of {used = used} {all = all} {found = found} g a w =
     record {
       some = found;
-      counted = ones-all found (w .few);
+      its-number = ones-all found (w .few);
       each = λ s p h l t n.
           w .each p l
           (and-bit all (bitXor used 18446744073709551615) p
-          ∙ and-of (hasBit all p) _ (a s p h (empty-lacks s) t) (xor-all used p (omega arith) ∙ ap not n))
+          ∙ and-of (hasBit all p) _ (a .has s p h (empty-lacks s) t) (xor-all used p (omega (arith, g .few)) ∙ ap not n))
           (empty-lacks p);
     }
-
-pub spread-few : {people : ℕ} {c : ℕ → ℕ} {steps used : ℕ} {dom : List ℕ} {number : ℕ} → Spread people c steps used dom number → number ≤ 64
-spread-few w = omega (arith, w .counted, count-le 64 (hasBit (w .some)))
 
 -- where each class of the scope is one of the part's or one of somebody of r, it has at most as many more as r has people
 classes-to : (n m : ℕ) (scope part : ℕ → Bool) (cl c : ℕ → ℕ) (r : ℕ → Bool)
@@ -117,14 +108,14 @@ classes-to n m scope part cl c r h =
     omega (arith, distinct-le-scope m r c)
 
 -- the classes of a rule in a plan of the domains: those that are had, and those that the open steps can add
-pub count-spread : (steps people : ℕ) (c : ℕ → ℕ) (scope : ℕ) (dom : List ℕ) (used heads wide number : ℕ) → Fixing steps people c scope dom 0 used heads wide
+pub count-spread : {steps people : ℕ} {c : ℕ → ℕ} {scope : ℕ} {dom : List ℕ} {used heads wide number : ℕ} → Fixing steps people c scope dom 0 used heads wide
     → Spread people c wide used dom number → (π : Plan) → Takes steps people dom π
     → distinct steps (hasBit scope) (λ u. c (π u)) ≤ count steps (hasBit heads) + number
-count-spread steps people c scope dom used heads wide number f w π takes =
+count-spread {steps} {people} {c} {scope} {dom} {used} {heads} {wide} {number} f w π takes =
     let a : count steps (hasBit heads) ≡ distinct steps (settled scope wide 0) (λ u. c (π u)) = f .number π takes in
     let b : distinct steps (hasBit scope) (λ u. c (π u)) ≤ distinct steps (settled scope wide 0) (λ u. c (π u)) + count 64 (hasBit (w .some))
     = classes-to steps 64 (hasBit scope) (settled scope wide 0) (λ u. c (π u)) c (hasBit (w .some)) brings in
-    let e : number ≡ count 64 (hasBit (w .some)) = w .counted in
+    let e : number ≡ count 64 (hasBit (w .some)) = w .its-number in
     omega arith
   where
     -- a step whose class no settled step has is open, and its person is not of the classes used

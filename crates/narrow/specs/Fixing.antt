@@ -28,6 +28,5 @@ pub record Fixing (steps people : ℕ) (c : ℕ → ℕ) (scope : ℕ) (dom : Li
       → c p ≡ c (π s) → hasBit used p ≡ true
 
 -- r has everybody who shares a class with somebody of a domain, but for those of `left`
-abbrev pub Reaching : ℕ → (ℕ → ℕ) → ℕ → ℕ → ℕ → Type 0
-Reaching people c domain left r = (p p′ : ℕ) → p < people → p′ < people → hasBit domain p ≡ true → hasBit left p ≡ false
-    → c p ≡ c p′ → hasBit r p′ ≡ true
+pub record Reaching (people : ℕ) (c : ℕ → ℕ) (domain left r : ℕ) : Type 0 where
+  pub has : (p p′ : ℕ) → p < people → p′ < people → hasBit domain p ≡ true → hasBit left p ≡ false → c p ≡ c p′ → hasBit r p′ ≡ true

@@ -7,24 +7,24 @@ use Rattle.bits.specs.Below.{count}
 use Rattle.bits.specs.Word.{hasBit}
 use Rattle.pattern.specs.Tables.{mayIn}
 
--- r has everybody of the domains of the steps, but for those of `left`
-abbrev pub Anybody : ℕ → List ℕ → ℕ → ℕ → Type 0
-Anybody steps dom left r = (s p : ℕ) → hasBit steps s ≡ true → hasBit left s ≡ false → mayIn dom s p ≡ true → hasBit r p ≡ true
+-- r has all that the sets of the steps have, but for those of `left`
+pub record AllOf (steps : ℕ) (sets : List ℕ) (left r : ℕ) : Type 0 where
+  pub has : (s p : ℕ) → hasBit steps s ≡ true → hasBit left s ≡ false → mayIn sets s p ≡ true → hasBit r p ≡ true
 
 -- somebody of r has the class v
-abbrev pub Has : (ℕ → ℕ) → ℕ → ℕ → Type 0
-Has c r v = (q : ℕ) × (q < 64) × (hasBit r q ≡ true) × (c q ≡ v)
+abbrev pub SomebodyOf : (ℕ → ℕ) → ℕ → ℕ → Type 0
+SomebodyOf c r v = (q : ℕ) × (q < 64) × (hasBit r q ≡ true) × (c q ≡ v)
 
 -- r has somebody of each class of a domain, but for those of `left`
 pub record Firsts (people : ℕ) (c : ℕ → ℕ) (domain left r : ℕ) : Type 0 where
   pub few : (p : ℕ) → hasBit r p ≡ true → p < 64
-  pub each : (p : ℕ) → p < people → hasBit domain p ≡ true → hasBit left p ≡ false → Has c r (c p)
+  pub each : (p : ℕ) → p < people → hasBit domain p ≡ true → hasBit left p ≡ false → SomebodyOf c r (c p)
 
 -- the people of the steps' domains who are not of `used` have at most so many classes: each is that of one of `some`
 pub record Spread (people : ℕ) (c : ℕ → ℕ) (steps used : ℕ) (dom : List ℕ) (number : ℕ) : Type 0 where
   pub some : ℕ
-  pub counted : number ≡ count 64 (hasBit some)
-  pub each : (s p : ℕ) → hasBit steps s ≡ true → p < people → mayIn dom s p ≡ true → hasBit used p ≡ false → Has c some (c p)
+  pub its-number : number ≡ count 64 (hasBit some)
+  pub each : (s p : ℕ) → hasBit steps s ≡ true → p < people → mayIn dom s p ≡ true → hasBit used p ≡ false → SomebodyOf c some (c p)
 
 -- the classes that are had and those that the steps can add are fewer than the lower limit
 pub record Short (people : ℕ) (c : ℕ → ℕ) (steps used : ℕ) (dom : List ℕ) (groups least : ℕ) : Type 0 where

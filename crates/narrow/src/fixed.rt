@@ -1,13 +1,13 @@
 // What the domains of a rule's steps settle of its count.
-use super::mates::mates;
+use super::sets::mates;
 use bits::set;
+use bits::sizes::Crowds;
+use bits::sizes::Domains;
 use bits::small;
-use pattern::Size;
 ghost use mathlib.Core.Path.{_≡_};
-ghost use Prim.Native.Nat.{_^_, _<_, _≤_};
+ghost use Prim.Native.Nat.{ℕ, _^_, _<_};
 ghost use lib.ListN.{length};
-ghost use Rattle.pattern.specs.Tables.{classIn};
-ghost use Rattle.narrow.specs.Domains.{AtLevel};
+ghost use Rattle.narrow.specs.Domains.{OneLevel, ForClasses};
 ghost use Rattle.narrow.specs.Fixing.{Shared, Fixing};
 
 // The classes that some steps of a scope have in every plan of the domains: their people, and a step
@@ -19,9 +19,9 @@ pub struct Forced {
 }
 
 // The people of the class that all of a domain share, or nobody where they share none.
-fn shared(people: usize, class: &[u8; 192], crowd: &[u64; 192], level: usize, domain: u64) -> u64
-    requires { ⌜ AtLevel people (now class) (now crowd) level ⌝ }
-    ensures { λ r. ⌜ Shared people (classIn (now (class .entry)) level) domain r ⌝ }
+fn shared(crowd: &Crowds, level: usize, domain: u64) -> u64
+    requires { ⌜ OneLevel (now crowd) level ⌝ }
+    ensures { λ r. ⌜ ForClasses (now (crowd .entry)) level (λ people c. Shared people c domain r) ⌝ }
 {
     if domain == 0 {
         return 0;
@@ -34,25 +34,20 @@ fn shared(people: usize, class: &[u8; 192], crowd: &[u64; 192], level: usize, do
 }
 
 // What the domains settle of a scope at a level.
-pub fn fixed(
-    size: Size,
-    class: &[u8; 192],
-    crowd: &[u64; 192],
-    level: usize,
-    scope: u16,
-    dom: &[u64; 12],
-) -> Forced
-    requires { ⌜ AtLevel (size .people) (now class) (now crowd) level × (size .steps ≤ 12) × (scope < 2 ^ size .steps) × (length (now dom) ≡ 12) ⌝ }
-    ensures { λ r. ⌜ Fixing (size .steps) (size .people) (classIn (now (class .entry)) level) scope (now (dom .entry)) 0 (r .used) (r .heads) (r .wide) ⌝ }
+pub fn fixed(crowd: &Crowds, level: usize, scope: u16, dom: &Domains) -> Forced
+    requires { ⌜ OneLevel (now crowd) level × (scope < 4096) × (length (now dom) ≡ 12) ⌝ }
+    ensures { λ r. ⌜ (r .wide < 4096) × ((steps : ℕ) → scope < 2 ^ steps
+        → ForClasses (now (crowd .entry)) level (λ people c. Fixing steps people c scope (now (dom .entry)) 0 (r .used) (r .heads) (r .wide))) ⌝ }
 {
     let mut used: u64 = 0;
     let mut heads: u16 = 0;
     let mut wide: u16 = 0;
     let mut left = scope;
     while left != 0 {
-        let s = small::lowest(left);
-        left = small::without(left, s);
-        let mask = shared(size.people, class, crowd, level, dom[s]);
+        let next = small::take(left);
+        left = next.rest;
+        let s = next.first;
+        let mask = shared(crowd, level, dom[s]);
         if mask == 0 {
             wide = small::with(wide, s);
             continue;

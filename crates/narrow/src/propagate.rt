@@ -1,10 +1,13 @@
 // Domains narrowed by rule after rule, as far as the effort goes.
 use super::revise::revise;
+use super::sets::all_of;
 use bits::set;
-use bits::small;
+use bits::sizes::Crowds;
+use bits::sizes::Domains;
+use bits::sizes::Naming;
+use bits::sizes::Rules;
 use pattern::Size;
 ghost use mathlib.Core.Path.{_≡_};
-ghost use Prim.Native.Nat.{_<_, _≤_};
 ghost use lib.ListN.{length};
 ghost use Rattle.pattern.specs.Tables.{jobIn};
 ghost use Rattle.levels.specs.Tabled.{Tabled};
@@ -13,35 +16,19 @@ ghost use Rattle.narrow.specs.Domains.{Narrowed};
 // How many rules a narrowing without a search may look at: more than it needs.
 const ENOUGH: u32 = 100000;
 
-// The rules that name one of these steps. No promise rests on it.
-fn touched(of: &[u64; 12], steps: u16) -> u64
-    requires { ⌜ (length (now of) ≡ 12) × (steps < 4096) ⌝ }
-{
-    let mut found: u64 = 0;
-    let mut left = steps;
-    while left != 0 {
-        let s = small::lowest(left);
-        left = small::without(left, s);
-        found = found | of[s];
-    }
-    found
-}
-
 // Narrows the domains by the pending rules and by those that name a step whose domain gets smaller. Says
 // whether every step has somebody left.
 pub fn propagate(
     size: Size,
-    class: &[u8; 192],
-    crowd: &[u64; 192],
-    rule: &[u32; 64],
-    of: &[u64; 12],
+    crowd: &Crowds,
+    rule: &Rules,
+    of: &Naming,
     pending: u64,
-    dom: &mut [u64; 12],
+    dom: &mut Domains,
     effort: &mut u32,
 ) -> bool
-    requires { ⌜ Tabled size (now class) (now crowd) (now rule) (now of) × (length (now dom) ≡ 12) ⌝ }
-    ensures { λ r. ⌜ Narrowed (jobIn size (now (class .entry)) (now (rule .entry)))
-        (now (dom .entry)) (now (dom .exit)) r ⌝ }
+    requires { ⌜ Tabled size (now crowd) (now rule) (now of) × (length (now dom) ≡ 12) ⌝ }
+    ensures { λ r. ⌜ Narrowed (jobIn size (now (crowd .entry)) (now (rule .entry))) (now (dom .entry)) (now (dom .exit)) r ⌝ }
 {
     let mut waiting = pending;
     while waiting != 0 {
@@ -49,33 +36,27 @@ pub fn propagate(
             return true;
         }
         *effort = *effort - 1;
-        let i = set::lowest(waiting);
-        waiting = set::without(waiting, i);
+        let next = set::take(waiting);
+        waiting = next.rest;
+        let i = next.first;
         if i >= size.rules {
             continue;
         }
-        let revision = revise(size, class, crowd, rule, i, dom);
+        let revision = revise(crowd, rule[i], dom);
         if revision.failed {
             return false;
         }
-        waiting = set::without(waiting | touched(of, revision.changed), i);
+        waiting = set::without(waiting | all_of(revision.changed, of), i);
     }
     true
 }
 
 // Narrows the domains by all rules of a job. Says whether every step has somebody left.
-pub fn narrow_all(
-    size: Size,
-    class: &[u8; 192],
-    crowd: &[u64; 192],
-    rule: &[u32; 64],
-    of: &[u64; 12],
-    dom: &mut [u64; 12],
-) -> bool
-    requires { ⌜ Tabled size (now class) (now crowd) (now rule) (now of) × (length (now dom) ≡ 12) ⌝ }
-    ensures { λ r. ⌜ Narrowed (jobIn size (now (class .entry)) (now (rule .entry))) (now (dom .entry)) (now (dom .exit)) r ⌝ }
+pub fn narrow_all(size: Size, crowd: &Crowds, rule: &Rules, of: &Naming, dom: &mut Domains) -> bool
+    requires { ⌜ Tabled size (now crowd) (now rule) (now of) × (length (now dom) ≡ 12) ⌝ }
+    ensures { λ r. ⌜ Narrowed (jobIn size (now (crowd .entry)) (now (rule .entry))) (now (dom .entry)) (now (dom .exit)) r ⌝ }
 {
     let mut effort = ENOUGH;
     let all = set::below(size.rules);
-    propagate(size, class, crowd, rule, of, all, dom, &mut effort)
+    propagate(size, crowd, rule, of, all, dom, &mut effort)
 }

@@ -10,7 +10,7 @@ use Rattle.pattern.specs.Rule.{scopeIn}
 use Rattle.pattern.specs.Search.{Searchable}
 use Rattle.pattern.specs.Tables.{jobIn}
 
-pub searchable : {size : Size} {class rule : List ℕ} → Given size class rule → Searchable (jobIn size class rule)
+pub searchable : {size : Size} {crowd rule : List ℕ} → Given size crowd rule → Searchable (jobIn size crowd rule)
 searchable g = record { refining = g .refining; rule-ok = g .ruled .rule-ok }
 
 -- the scope of a rule is a set of numbers below 12

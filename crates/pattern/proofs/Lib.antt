@@ -14,3 +14,4 @@ pub mod Same
 pub mod Counted
 pub mod Packing
 pub mod Given
+pub mod Classes

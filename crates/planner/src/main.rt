@@ -3,7 +3,10 @@ ghost use mathlib.Core.Path.{_≡_};
 ghost use Prim.Native.Nat.{_+_, _<_, _≤_};
 ghost use lib.ListN.{length};
 ghost use Rattle.bits.specs.Word.{longAt};
+use answer::number;
 use bits::byte_at;
+use bits::sizes::MOST_BYTES;
+use bits::sizes::MOST_STEPS;
 use crew::crew;
 use libc::STDIN_FILENO;
 use libc::STDOUT_FILENO;
@@ -12,6 +15,11 @@ use sheet::Reading;
 use sheet::read_sheet;
 
 const CAP: u32 = 2;
+
+// The bytes of the longest plan, and of a spare count.
+const PLAN: usize = 8 * MOST_STEPS;
+
+const SPARE: usize = 16;
 
 fn text(words: &[u8]) {
     io::write_all(STDOUT_FILENO, words);
@@ -43,7 +51,7 @@ fn write_refusal(number: u32) {
 }
 
 // The number of steps, and a line for each: its tag and its person's.
-fn write_plan(bytes: &[u8; 96], steps: usize)
+fn write_plan(bytes: &[u8; PLAN], steps: usize)
     requires { ⌜ (length (now bytes) ≡ 96) × (steps ≤ 12) ⌝ }
 {
     text(b"PLAN");
@@ -57,7 +65,7 @@ fn write_plan(bytes: &[u8; 96], steps: usize)
 }
 
 // The group whose absence breaks the job.
-fn write_away(bytes: &[u8; 16], members: usize)
+fn write_away(bytes: &[u8; SPARE], members: usize)
     requires { ⌜ (length (now bytes) ≡ 16) × (members ≤ 3) ⌝ }
 {
     text(b"AWAY");
@@ -68,7 +76,7 @@ fn write_away(bytes: &[u8; 16], members: usize)
 }
 
 // The count and the cap, and the group where the count is below the cap.
-fn write_spare(bytes: &[u8; 16])
+fn write_spare(bytes: &[u8; SPARE])
     requires { ⌜ length (now bytes) ≡ 16 ⌝ }
 {
     let count = byte_at(bytes, 0);
@@ -82,19 +90,8 @@ fn write_spare(bytes: &[u8; 16])
     }
 }
 
-fn answer(sheet: &[u8]) {
-    let mut plan = [0u8; 96];
-    let number = crew(sheet, &mut plan);
-    if number != 0 {
-        write_refusal(number);
-        return;
-    }
-    let mut away = [0u8; 16];
-    let other = spare(sheet, &mut away, CAP);
-    if other != 0 {
-        write_refusal(other);
-        return;
-    }
+// The answer to a sheet: a refusal of the reader, one of a call, or the plan and the spare count.
+fn write_answer(sheet: &[u8]) {
     let read = read_sheet(sheet);
     let reading = read.reading;
     let Reading::Readable {
@@ -103,9 +100,19 @@ fn answer(sheet: &[u8]) {
         rules: _,
     } = reading
     else {
+        write_refusal(number(reading));
         return;
     };
-    if 12 < steps {
+    let mut plan = [0u8; PLAN];
+    let planned = crew(sheet, &mut plan);
+    if planned != 0 {
+        write_refusal(planned);
+        return;
+    }
+    let mut away = [0u8; SPARE];
+    let spared = spare(sheet, &mut away, CAP);
+    if spared != 0 {
+        write_refusal(spared);
         return;
     }
     write_plan(&plan, steps);
@@ -114,7 +121,7 @@ fn answer(sheet: &[u8]) {
 
 fn main() {
     // One byte more than the longest sheet, so that a longer input has a length that is refused.
-    let mut input = [0u8; 2257];
+    let mut input = [0u8; MOST_BYTES + 1];
     let n = io::read_full(STDIN_FILENO, &mut input);
-    answer(&input[..n]);
+    write_answer(&input[..n]);
 }

@@ -6,4 +6,3 @@ pub mod Descend
 pub mod Decide
 pub mod Fill
 pub mod Top
-pub mod Leads

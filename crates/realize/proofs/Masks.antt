@@ -1,5 +1,5 @@
 -- A group and the groups of a set of steps, sifted from its mask. Assumes nothing.
-use mathlib.Core.Bool.{_&&_}
+use mathlib.Core.Bool.{Bool, cond, _&&_}
 use mathlib.Core.List.{List}
 use mathlib.Core.Path.{_≡_, sym, ap}
 use Prim.Native.Nat.{ℕ, suc, _+_, _*_, _-_}
@@ -16,14 +16,19 @@ use Rattle.pattern.specs.Realize.{fibre, groups}
 pub level-at : (q k i : ℕ) → (suc q - 1) * k + i ≡ q * k + i
 level-at q k i = let e : suc q - 1 ≡ q = omega arith in ap (λ (x : ℕ). x * k + i) e
 
-pub label-sifted : (label : List ℕ) (q g : ℕ) {steps rest r : ℕ} → Sifted steps (λ s. eqb (getD label (q * 12 + s) 0) g) rest r → rest ≡ 0
+-- the steps with the label looked for: that of the step itself, or g
+pub labels-sifted : (label : List ℕ) (q : ℕ) (own : Bool) (g : ℕ) {steps rest r : ℕ}
+    → Sifted steps (λ s. eqb (getD label (q * 12 + s) 0) (cond own s g)) rest r → rest ≡ 0
+    → Mask (λ s. hasBit steps s && eqb (labelIn label (suc q) s) (cond own s g)) r
+labels-sifted label q own g {steps} w e = sifted-all _ w e
+    (λ s. ap (λ (x : ℕ). hasBit steps s && eqb (getD label x 0) (cond own s g)) (sym (level-at q 12 s)))
+
+pub members-mask : (label : List ℕ) (q g steps : ℕ) {r : ℕ} → Mask (λ s. hasBit steps s && eqb (labelIn label (suc q) s) g) r
     → Mask (fibre (hasBit steps) (labelIn label (suc q)) g) r
 unfolding fibre
-label-sifted label q g {steps} w e = sifted-all _ w e
-    (λ s. ap (λ (x : ℕ). hasBit steps s && eqb (getD label x 0) g) (sym (level-at q 12 s)))
+members-mask label q g steps w = w
 
-pub groups-sifted : (label : List ℕ) (q : ℕ) {steps rest r : ℕ} → Sifted steps (λ s. eqb (getD label (q * 12 + s) 0) s) rest r → rest ≡ 0
+pub groups-mask : (label : List ℕ) (q steps : ℕ) {r : ℕ} → Mask (λ s. hasBit steps s && eqb (labelIn label (suc q) s) s) r
     → Mask (groups (hasBit steps) (labelIn label (suc q))) r
 unfolding groups
-groups-sifted label q {steps} w e = sifted-all _ w e
-    (λ s. ap (λ (x : ℕ). hasBit steps s && eqb (getD label x 0) s) (sym (level-at q 12 s)))
+groups-mask label q steps w = w

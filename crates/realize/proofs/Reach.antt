@@ -11,17 +11,17 @@ use lib.ListN.{getD, set, replicate, length-set, length-replicate}
 use lib.Seq.{getD-set-same, getD-set-other}
 use borrow.Author.Tests.{eqb-true, eqb-false, ltb-true, lt-ltb}
 use Rattle.bits.specs.Word.{hasBit}
-use Rattle.bits.specs.Set.{Added, Removed, Lowest}
+use Rattle.bits.specs.Set.{Added, FirstAndRest, Mask}
 use Rattle.bits.proofs.Below.{by-cases, true-false}
 use Rattle.bits.proofs.Counting.{and-of}
-use Rattle.bits.proofs.SetLaws.{empty-lacks, and-bit, and-bit-left, and-bit-right, added-has, added-keeps, added-other, removed-other, removed-was}
-use Rattle.workflow.specs.Problem.{Job}
-use Rattle.pattern.specs.Tables.{mayIn}
+use Rattle.bits.proofs.SetLaws.{empty-lacks, and-bit, and-bit-left, and-bit-right, added-has, added-keeps, added-other, removed-other}
+use Rattle.pattern.specs.declared.Size.{Size}
+use Rattle.pattern.specs.Given.{Given, Leaders}
+use Rattle.pattern.specs.Tables.{mayIn, jobIn}
 use Rattle.pattern.specs.Realize.{leader}
 use Rattle.pattern.proofs.Leader.{leader-le}
-use Rattle.bits.specs.Set.{Mask}
-use Rattle.realize.specs.Parts.{nameIn, Names, Reachable, Indexed, TablesOf, Classes}
-use Rattle.bits.proofs.Masks.{mask-has, mask-in}
+use Rattle.realize.specs.Parts.{nameIn, Names, Reachable, Offers}
+use Rattle.bits.proofs.Masks.{mask-has, mask-in, taken-was}
 use Rattle.realize.proofs.Masks.{level-at}
 
 -- ---- the classes of a set of people
@@ -30,18 +30,18 @@ pub names-none : (class : List ℕ) (q people : ℕ) → Names class q people pe
 names-none class q people =
     record { has = λ p h k. true-false h k; part = λ p h. h; only = λ v h. true-false h (empty-lacks v) }
 
-pub names-next : {class : List ℕ} {q people rest p rest′ r r′ : ℕ} → Names class q people rest r → Lowest rest p → Removed rest p rest′
+pub names-next : {class : List ℕ} {q people rest p rest′ r r′ : ℕ} → Names class q people rest r → FirstAndRest rest p rest′
     → Added r (nameIn class q p) r′ → Names class q people rest′ r′
-names-next {class} {q} {people} {rest} {p} {rest′} {r} {r′} w low gone more =
+names-next {class} {q} {people} {rest} {p} {rest′} {r} {r′} w first more =
     record {
       has = λ x h k.
           by-cases (eqb x p)
           (λ t. subst (λ (y : ℕ). hasBit r′ (nameIn class q y) ≡ true) (sym (eqb-true x p t)) (added-has more))
-          (λ t. added-keeps more (nameIn class q x) (w .has x h (sym (removed-other gone x (eqb-false x p t)) ∙ k)));
-      part = λ x h. w .part x (removed-was gone x h);
+          (λ t. added-keeps more (nameIn class q x) (w .has x h (sym (removed-other (first .removed) x (eqb-false x p t)) ∙ k)));
+      part = λ x h. w .part x (taken-was first x h);
       only = λ v h.
           by-cases (eqb v (nameIn class q p))
-          (λ t. (p, w .part p (low .has), sym (eqb-true v (nameIn class q p) t)))
+          (λ t. (p, w .part p (first .lowest .has), sym (eqb-true v (nameIn class q p) t)))
           (λ t. w .only v (sym (added-other more v (eqb-false v (nameIn class q p) t)) ∙ h));
     }
 
@@ -99,53 +99,36 @@ module _ (people : ℕ) (class may : List ℕ) where
       → Reachable people class may (levels * 12) reach
   reachable-all levels x reach l m w = let e : x ≡ levels * 12 = omega arith in subst (λ (y : ℕ). Reachable people class may y reach) e w
 
--- ---- the tables of a job
+-- ---- the classes of a job
 
-module _ {people levels : ℕ} {class may crowd reach : List ℕ} (w : Indexed people levels class may crowd reach) (j : Job) (crew : j .people ≡ people)
-    (classes : Classes j levels class) where
-  -- the array has the names of classes
-  name-class : (q p : ℕ) → q < j .levels → p < j .people → nameIn class q p ≡ j .class (suc q) p
-  name-class q p d l =
-      let e : j .class (suc q) p ≡ getD class (q * 64 + p) 0
-      = classes .each (suc q) p (omega arith) d l ∙ ap (λ (x : ℕ). getD class x 0) (level-at q 64 p)
+-- a class is named by its first person, and the job knows it by the mask of its people
+module _ {size : Size} {class crowd may reach rule : List ℕ} (given : Given size crowd rule) (names : Leaders size class crowd rule)
+    (w : Reachable (size .people) class may (size .levels * 12) reach) where
+  name-leader : (q p : ℕ) → q < size .levels → p < size .people → nameIn class q p ≡ leader (jobIn size crowd rule) (suc q) p
+  name-leader q p d l =
+      let e : getD class (q * 64 + p) 0 ≡ leader (jobIn size crowd rule) (suc q) p
+      = ap (λ (x : ℕ). getD class x 0) (sym (level-at q 64 p)) ∙ names .leaders (suc q) p (omega arith) d l
       in
-      let f : j .class (suc q) p ≡ leader j (suc q) p = classes .leads (suc q) p (omega arith) d l in
-      let m : leader j (suc q) p ≤ p = leader-le j (suc q) p in
-      let n : j .people ≤ 64 = classes .few in
-      omega arith
+      let m : leader (jobIn size crowd rule) (suc q) p ≤ p = leader-le (jobIn size crowd rule) (suc q) p in
+      omega (arith, given .few-people)
 
-  down : (q : ℕ) → q < j .levels → q < levels
-  down q d = omega (arith, classes .depth)
-
-  pub tables-of : TablesOf j levels may crowd reach
-  tables-of =
+  pub reachable-offers : Offers (jobIn size crowd rule) may reach
+  reachable-offers =
       record {
-        depth = classes .depth;
-        refining = classes .refining;
-        few = classes .few;
-        leads = λ q p d l. classes .leads (suc q) p (omega arith) d l;
-        crowd-has = λ q v p d l m e.
-            w .crowds .has q v p (down q d) (omega arith) (omega arith) (name-class q p d m ∙ e ∙ sym (name-class q v d l));
-        crowd-only = λ q v p d l h.
-            let o = w .crowds .only q v p (down q d) (omega arith) h in
-            let k : p < j .people = omega (arith, o .0) in
-            (k, sym (name-class q p d k) ∙ o .1 ∙ name-class q v d l);
-        reach-has = λ q s p d l k m.
+        sized = w .sized;
+        has = λ q s p d l k m.
             let a : (q * 12 + s) / 12 ≡ q = omega arith in
             let b : (q * 12 + s) % 12 ≡ s = omega arith in
-            let t : q < levels = down q d in
-            subst (λ (x : ℕ). hasBit (getD reach (q * 12 + s) 0) x ≡ true) (name-class q p d k)
+            subst (λ (x : ℕ). hasBit (getD reach (q * 12 + s) 0) x ≡ true) (name-leader q p d k)
             (subst (λ (x : ℕ). hasBit (getD reach (q * 12 + s) 0) (nameIn class x p) ≡ true) a
-            (w .reaches .has (q * 12 + s) p (omega arith) (omega arith) (subst (λ (x : ℕ). mayIn may x p ≡ true) (sym b) m)));
-        reach-only = λ q s v d l h.
+            (w .has (q * 12 + s) p (omega arith) k (subst (λ (x : ℕ). mayIn may x p ≡ true) (sym b) m)));
+        only = λ q s v d l h.
             let a : (q * 12 + s) / 12 ≡ q = omega arith in
             let b : (q * 12 + s) % 12 ≡ s = omega arith in
-            let t : q < levels = down q d in
-            let o = w .reaches .only (q * 12 + s) v (omega arith) h in
-            let k : o .0 < j .people = omega (arith, o .1) in (
+            let o = w .only (q * 12 + s) v (omega arith) h in (
               o .0,
-              k,
+              o .1,
               subst (λ (x : ℕ). mayIn may x (o .0) ≡ true) b (o .2),
-              sym (name-class q (o .0) d k) ∙ subst (λ (x : ℕ). nameIn class x (o .0) ≡ v) a (o .3),
+              sym (name-leader q (o .0) d (o .1)) ∙ subst (λ (x : ℕ). nameIn class x (o .0) ≡ v) a (o .3),
             );
       }

@@ -10,14 +10,15 @@ use lib.ListN.{length, getD, set, length-set}
 use lib.Seq.{getD-set-same, getD-set-other}
 use borrow.Author.Tests.{eqb-true, eqb-false}
 use Rattle.bits.specs.Word.{hasBit}
-use Rattle.bits.specs.Set.{Removed, Lowest}
+use Rattle.bits.specs.Set.{Lowest, FirstAndRest}
 use Rattle.bits.proofs.Below.{by-cases, true-false}
 use Rattle.bits.proofs.Counting.{and-of}
-use Rattle.bits.proofs.SetLaws.{and-bit, and-bit-left, and-bit-right, empty-lacks, zero-empty, trailing-lowest, removed-other, removed-was}
+use Rattle.bits.proofs.Masks.{taken-was}
+use Rattle.bits.proofs.SetLaws.{and-bit, and-bit-left, and-bit-right, empty-lacks, zero-empty, trailing-lowest, removed-other}
 use Rattle.workflow.specs.Problem.{May}
 use Rattle.pattern.specs.Tables.{mayIn, planIn}
 use Rattle.realize.specs.Decision.{Able, Staffing}
-use Rattle.realize.specs.Filling.{Kept, StaffedBy}
+use Rattle.realize.specs.Filling.{Untouched, StaffedBy}
 
 -- an element of the mask of a step's people within C is somebody
 able-of : (may : List ℕ) (people s p : ℕ) → hasBit (bitAnd (getD may s 0) people) p ≡ true → (hasBit people p ≡ true) × (mayIn may s p ≡ true)
@@ -38,43 +39,43 @@ pub staffing-none : {may : May} {C : ℕ → Bool} {steps : ℕ} → Staffing ma
 staffing-none = record { part = λ s h. h; able = λ s h n. true-false h n }
 
 module _ (may : List ℕ) (people s : ℕ) {steps rest : ℕ} where
-  pub staffing-next : {rest′ : ℕ} → people < 2 ^ 64 → Staffing (mayIn may) (hasBit people) steps rest → Removed rest s rest′ → (bitAnd (getD may s 0) people ≡ 0 → ⊥)
-      → Staffing (mayIn may) (hasBit people) steps rest′
-  staffing-next l w gone d =
+  pub staffing-next : {rest′ : ℕ} → people < 2 ^ 64 → Staffing (mayIn may) (hasBit people) steps rest → FirstAndRest rest s rest′
+      → (bitAnd (getD may s 0) people ≡ 0 → ⊥) → Staffing (mayIn may) (hasBit people) steps rest′
+  staffing-next l w first d =
       record {
-        part = λ k h. w .part k (removed-was gone k h);
+        part = λ k h. w .part k (taken-was first k h);
         able = λ k h n.
             by-cases (eqb k s)
             (λ t. subst (Able (mayIn may) (hasBit people)) (sym (eqb-true k s t)) (able-some may people s l d))
-            (λ t. w .able k h (sym (removed-other gone k (eqb-false k s t)) ∙ n));
+            (λ t. w .able k h (sym (removed-other (first .removed) k (eqb-false k s t)) ∙ n));
       }
 
-  pub staffing-fails : Staffing (mayIn may) (hasBit people) steps rest → hasBit rest s ≡ true → bitAnd (getD may s 0) people ≡ 0
+  pub staffing-fails : Staffing (mayIn may) (hasBit people) steps rest → Lowest rest s → bitAnd (getD may s 0) people ≡ 0
       → Staffing (mayIn may) (hasBit people) steps 0 → ⊥
-  staffing-fails w h e all = able-none may people s e (all .able s (w .part s h) (empty-lacks s))
+  staffing-fails w low e all = able-none may people s e (all .able s (w .part s (low .has)) (empty-lacks s))
 
 pub staffing-all : {may : May} {C : ℕ → Bool} {steps rest : ℕ} → Staffing may C steps rest → rest ≡ 0 → Staffing may C steps 0
 staffing-all {may} {C} {steps} w e = subst (Staffing may C steps) e w
 
 -- ---- the same, with a plan written
 
-pub kept-none : (steps : ℕ) (plan : List ℕ) → Kept steps plan plan
-kept-none steps plan = record { sized = refl; kept = λ s h. refl }
+pub untouched : (steps : ℕ) (plan : List ℕ) → Untouched steps plan plan
+untouched steps plan = record { sized = refl; kept = λ s h. refl }
 
 pub staffed-none : {may : May} {C : ℕ → Bool} {steps : ℕ} {plan : List ℕ} → StaffedBy may C steps steps plan plan
-staffed-none {steps = steps} {plan = plan} = record { kept = kept-none steps plan; part = λ s h. h; able = λ s h n. true-false h n }
+staffed-none {steps = steps} {plan = plan} = record { kept = untouched steps plan; part = λ s h. h; able = λ s h n. true-false h n }
 
 module _ (may : List ℕ) (people : ℕ) {steps rest s rest′ : ℕ} {plan₀ plan : List ℕ} (w : StaffedBy (mayIn may) (hasBit people) steps rest plan₀ plan)
-    (gone : Removed rest s rest′) (has : hasBit rest s ≡ true) where
+    (first : FirstAndRest rest s rest′) where
   pub staffed-skip : bitAnd (getD may s 0) people ≡ 0 → StaffedBy (mayIn may) (hasBit people) steps rest′ plan₀ plan
   staffed-skip e =
       record {
         kept = w .kept;
-        part = λ k h. w .part k (removed-was gone k h);
+        part = λ k h. w .part k (taken-was first k h);
         able = λ k h n a.
             by-cases (eqb k s)
             (λ t. absurd (able-none may people s e (subst (Able (mayIn may) (hasBit people)) (eqb-true k s t) a)))
-            (λ t. w .able k h (sym (removed-other gone k (eqb-false k s t)) ∙ n) a);
+            (λ t. w .able k h (sym (removed-other (first .removed) k (eqb-false k s t)) ∙ n) a);
       }
 
   pub staffed-take : (p : ℕ) → s < length plan → Lowest (bitAnd (getD may s 0) people) p → StaffedBy (mayIn may) (hasBit people) steps rest′ plan₀ (set plan s p)
@@ -82,16 +83,16 @@ module _ (may : List ℕ) (people : ℕ) {steps rest s rest′ : ℕ} {plan₀ p
       record {
         kept = record {
           sized = length-set plan s p ∙ w .kept .sized;
-          kept = λ k h. getD-set-other plan s k p 0 (λ e. true-false (w .part s has) (subst (λ (x : ℕ). hasBit steps x ≡ false) e h)) ∙ w .kept .kept k h;
+          kept = λ k h. getD-set-other plan s k p 0 (λ e. true-false (w .part s (first .lowest .has)) (subst (λ (x : ℕ). hasBit steps x ≡ false) e h)) ∙ w .kept .kept k h;
         };
-        part = λ k h. w .part k (removed-was gone k h);
+        part = λ k h. w .part k (taken-was first k h);
         able = λ k h n a.
             by-cases (eqb k s)
             (λ t. subst (λ (x : ℕ). (hasBit people (planIn (set plan s p) x) ≡ true) × (mayIn may x (planIn (set plan s p) x) ≡ true)) (sym (eqb-true k s t))
             (subst (λ (x : ℕ). (hasBit people x ≡ true) × (mayIn may s x ≡ true)) (sym (getD-set-same plan s p 0 l)) (able-of may people s p (low .has))))
             (λ t. let d : k ≡ s → ⊥ = eqb-false k s t in
             subst (λ (x : ℕ). (hasBit people x ≡ true) × (mayIn may k x ≡ true)) (sym (getD-set-other plan s k p 0 d))
-            (w .able k h (sym (removed-other gone k d) ∙ n) a));
+            (w .able k h (sym (removed-other (first .removed) k d) ∙ n) a));
       }
 
 pub staffed-all : {may : May} {C : ℕ → Bool} {steps rest : ℕ} {plan₀ plan : List ℕ} → StaffedBy may C steps rest plan₀ plan → rest ≡ 0

@@ -3,16 +3,17 @@ use mathlib.Core.Bool.{Bool, true, false}
 use mathlib.Core.List.{List}
 use mathlib.Core.Logic.{_⊎_}
 use mathlib.Core.Path.{_≡_}
-use Prim.Native.Nat.{ℕ, suc, _+_, _*_}
+use Prim.Native.Nat.{ℕ, _+_, _*_}
 use lib.ListN.{length, getD}
 use Rattle.bits.specs.Word.{hasBit}
 use Rattle.matching.specs.Assignment.{Covers, inMask, suits, classAt}
 use Rattle.workflow.specs.Problem.{Job, May}
 use Rattle.pattern.specs.Tables.{mayIn, labelIn}
-use Rattle.pattern.specs.Realize.{Realized, fibre, groups}
+use Rattle.pattern.specs.Realize.{Realized}
 use Rattle.bits.specs.Set.{Mask}
 use Rattle.bits.specs.Says.{Says}
-use Rattle.realize.specs.Parts.{Indexed, Part, Known}
+use Rattle.realize.specs.declared.parts.Task.{Task}
+use Rattle.realize.specs.Parts.{Doable, groupsIn, groupIn, groupTask, classTask, Part, TablesFor}
 
 -- somebody of C may do step s
 abbrev pub Able : May → (ℕ → Bool) → ℕ → Type 0
@@ -24,9 +25,8 @@ pub record Staffing (may : May) (C : ℕ → Bool) (steps rest : ℕ) : Type 0 w
   pub able : (s : ℕ) → hasBit steps s ≡ true → hasBit rest s ≡ false → Able may C s
 
 -- the promise of `decide`: the steps can go to the people, or not
-pub record Decided (levels : ℕ) (may label crowd reach : List ℕ) (q steps people : ℕ) (r : Bool) : Type 0 where
-  pub says : (j : Job) → Part j levels may label crowd reach q (hasBit steps) (hasBit people)
-      → Says r (Realized j (mayIn may) (labelIn label) q (hasBit steps) (hasBit people))
+pub record Decided (may label crowd reach : List ℕ) (t : Task) (r : Bool) : Type 0 where
+  pub says : (j : Job) → Part j may label crowd reach t → Says r (Doable j may label t)
 
 -- the promise of `candidates`: r has those of `people` that name a class of level q + 1 with somebody for each step of the group, but for `rest`
 pub record Candidates (reach : List ℕ) (q group people rest r : ℕ) : Type 0 where
@@ -35,47 +35,46 @@ pub record Candidates (reach : List ℕ) (q group people rest r : ℕ) : Type 0 
   pub each : (v s : ℕ) → hasBit r v ≡ true → hasBit group s ≡ true → hasBit rest s ≡ false → hasBit (getD reach (q * 12 + s) 0) v ≡ true
   pub all : (v : ℕ) → hasBit people v ≡ true → ((s : ℕ) → hasBit group s ≡ true → hasBit (getD reach (q * 12 + s) 0) v ≡ true) → hasBit r v ≡ true
 
--- r has the classes of `names`, but for `rest`, to whose people the steps of the group can go
-pub record Hosting (levels : ℕ) (may label crowd reach : List ℕ) (q group names rest r : ℕ) : Type 0 where
+-- r has the classes of `names`, but for `rest`, to whose people the steps can go
+pub record Hosting (may label crowd reach : List ℕ) (t : Task) (names rest r : ℕ) : Type 0 where
   pub part : (v : ℕ) → hasBit rest v ≡ true → hasBit names v ≡ true
   pub only : (v : ℕ) → hasBit r v ≡ true → hasBit names v ≡ true
   pub left : (v : ℕ) → hasBit rest v ≡ true → hasBit r v ≡ false
-  pub done : (v : ℕ) → hasBit names v ≡ true → hasBit rest v ≡ false
-      → Decided levels may label crowd reach (q + 1) group (getD crowd (q * 64 + v) 0) (hasBit r v)
+  pub done : (v : ℕ) → hasBit names v ≡ true → hasBit rest v ≡ false → Decided may label crowd reach (classTask crowd t v) (hasBit r v)
 
--- the promise of `hosts`: r has the classes inside `people` to which the steps of the group can go
-pub record Hosted (levels : ℕ) (may label crowd reach : List ℕ) (q group people r : ℕ) : Type 0 where
+-- the promise of `hosts`: r has the classes inside the people to which the steps can go
+pub record Hosted (may label crowd reach : List ℕ) (t : Task) (r : ℕ) : Type 0 where
   pub names : ℕ
-  pub candidates : Candidates reach q group people 0 names
-  pub hosting : Hosting levels may label crowd reach q group names 0 r
+  pub candidates : Candidates reach (t .q) (t .steps) (t .people) 0 names
+  pub hosting : Hosting may label crowd reach t names 0 r
 
--- row has the classes that host group g of `steps`
-pub record Row (levels : ℕ) (may label crowd reach : List ℕ) (q steps people g row : ℕ) : Type 0 where
+-- row has the classes that host group g
+pub record Row (may label crowd reach : List ℕ) (t : Task) (g row : ℕ) : Type 0 where
   pub group : ℕ
-  pub mask : Mask (fibre (hasBit steps) (labelIn label (suc q)) g) group
-  pub hosted : Hosted levels may label crowd reach q group people row
+  pub mask : Mask (groupIn label t g) group
+  pub hosted : Hosted may label crowd reach (groupTask t group) row
 
 -- each group of `heads`, the mask of the groups, but for `rest`, has its row
-pub record Linked (levels : ℕ) (may label crowd reach : List ℕ) (q steps people heads rest : ℕ) (edges : List ℕ) : Type 0 where
+pub record Linked (may label crowd reach : List ℕ) (t : Task) (heads rest : ℕ) (edges : List ℕ) : Type 0 where
   pub sized : length edges ≡ 12
   pub part : (g : ℕ) → hasBit rest g ≡ true → hasBit heads g ≡ true
-  pub done : (g : ℕ) → hasBit heads g ≡ true → hasBit rest g ≡ false → Row levels may label crowd reach q steps people g (getD edges g 0)
+  pub done : (g : ℕ) → hasBit heads g ≡ true → hasBit rest g ≡ false → Row may label crowd reach t g (getD edges g 0)
 
 -- some group of `heads` has no host
-pub record Unhosted (levels : ℕ) (may label crowd reach : List ℕ) (q steps people heads : ℕ) : Type 0 where
+pub record Unhosted (may label crowd reach : List ℕ) (t : Task) (heads : ℕ) : Type 0 where
   pub who : ℕ
   pub among : hasBit heads who ≡ true
-  pub row : Row levels may label crowd reach q steps people who 0
+  pub row : Row may label crowd reach t who 0
 
 -- the promise of `cover`, where `heads` is the mask of the groups: one has no host, and nothing is found, or the answer is that of a matching
 -- along the rows
-pub record Covering (levels : ℕ) (may label crowd reach : List ℕ) (q steps people : ℕ) (found : Bool) (at : List ℕ) : Type 0 where
+pub record Covering (may label crowd reach : List ℕ) (t : Task) (found : Bool) (at : List ℕ) : Type 0 where
   pub heads : ℕ
-  pub mask : Mask (groups (hasBit steps) (labelIn label (suc q))) heads
-  pub answer : ((found ≡ false) × Unhosted levels may label crowd reach q steps people heads)
-      ⊎ ((edges : List ℕ) × Linked levels may label crowd reach q steps people heads 0 edges × Covers (inMask heads) (suits edges) found (classAt at))
+  pub mask : Mask (groupsIn label t) heads
+  pub answer : ((found ≡ false) × Unhosted may label crowd reach t heads)
+      ⊎ ((edges : List ℕ) × Linked may label crowd reach t heads 0 edges × Covers (inMask heads) (suits edges) found (classAt at))
 
--- the promise of `realizable`, for all classes whose tables these are
+-- the promise of `realizable`, for every job whose tables these are
 pub record Realizable (people levels : ℕ) (may label crowd reach : List ℕ) (placed : ℕ) (r : Bool) : Type 0 where
-  pub says : (class : List ℕ) → Indexed people levels class may crowd reach → (j : Job) → Known j people levels class label placed
+  pub says : (j : Job) → TablesFor j people levels may label crowd reach placed
       → Says r (Realized j (mayIn may) (labelIn label) 0 (hasBit placed) (λ p. true))

@@ -1,52 +1,69 @@
 // Whether a pattern is realizable, as section 3.3 of document 004 has it, and a plan that realizes it.
 // The tables are those of the search: `may` has a mask of people for each step, `label` has 12 entries a
-// level, `crowd` has the people of each class at its name and `reach` the classes with somebody for each step.
+// level, `crowd` has the people of each person's class and `reach` the classes with somebody for each step.
 mod decision;
 pub mod parts;
 mod plan;
 pub mod tables;
 
 use crate::decision::decide;
+use crate::parts::Task;
 use crate::plan::fill;
 use bits::set;
+use bits::sizes::Crowds;
+use bits::sizes::Domains;
+use bits::sizes::Labels;
+use bits::sizes::Plan;
+use bits::sizes::Reach;
 use pattern::Size;
 ghost use mathlib.Core.Path.{_≡_};
 ghost use Prim.Native.Nat.{_≤_};
 ghost use lib.ListN.{length};
-ghost use Rattle.realize.specs.Parts.{Sized};
+ghost use Rattle.realize.specs.Parts.{ArraysSized, WholeTask};
 ghost use Rattle.realize.specs.Decision.{Realizable};
 ghost use Rattle.realize.specs.Filling.{Realizing};
+
+// What is asked at first: the placed steps are to go to anybody.
+fn whole(size: Size, placed: u16) -> Task
+    requires { ⌜ size .people ≤ 64 ⌝ }
+    ensures { λ r. ⌜ WholeTask (size .people) (size .levels) placed r ⌝ }
+{
+    Task {
+        levels: size.levels,
+        q: 0,
+        steps: placed,
+        people: set::below(size.people),
+    }
+}
 
 // Whether the pattern of the placed steps can be realized.
 pub fn realizable(
     size: Size,
-    may: &[u64; 12],
-    label: &[u8; 36],
-    crowd: &[u64; 192],
-    reach: &[u64; 36],
+    may: &Domains,
+    label: &Labels,
+    crowd: &Crowds,
+    reach: &Reach,
     placed: u16,
 ) -> bool
-    requires { ⌜ Sized (size .levels) (now may) (now label) (now crowd) (now reach) placed × (size .people ≤ 64) ⌝ }
+    requires { ⌜ ArraysSized (size .levels) (now may) (now label) (now crowd) (now reach) placed × (size .people ≤ 64) ⌝ }
     ensures { λ r. ⌜ Realizable (size .people) (size .levels) (now (may .entry)) (now (label .entry)) (now (crowd .entry)) (now (reach .entry)) placed r ⌝ }
 {
-    let all = set::below(size.people);
-    decide(size.levels, may, label, crowd, reach, 0, placed, all)
+    decide(may, label, crowd, reach, whole(size, placed))
 }
 
 // Writes a plan of the placed steps that realizes the pattern. The other steps keep their people; where
 // the pattern cannot be realized, nothing is said of the placed ones.
 pub fn realize(
     size: Size,
-    may: &[u64; 12],
-    label: &[u8; 36],
-    crowd: &[u64; 192],
-    reach: &[u64; 36],
+    may: &Domains,
+    label: &Labels,
+    crowd: &Crowds,
+    reach: &Reach,
     placed: u16,
-    plan: &mut [u8; 12],
+    plan: &mut Plan,
 )
-    requires { ⌜ Sized (size .levels) (now may) (now label) (now crowd) (now reach) placed × (size .people ≤ 64) × (length (now plan) ≡ 12) ⌝ }
+    requires { ⌜ ArraysSized (size .levels) (now may) (now label) (now crowd) (now reach) placed × (size .people ≤ 64) × (length (now plan) ≡ 12) ⌝ }
     ensures { λ r. ⌜ Realizing (size .people) (size .levels) (now (may .entry)) (now (label .entry)) (now (crowd .entry)) (now (reach .entry)) placed (now (plan .entry)) (now (plan .exit)) ⌝ }
 {
-    let all = set::below(size.people);
-    fill(size.levels, may, label, crowd, reach, 0, placed, all, plan);
+    fill(may, label, crowd, reach, whole(size, placed), plan);
 }

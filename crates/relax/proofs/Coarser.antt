@@ -2,7 +2,6 @@
 use mathlib.Core.Bool.{Bool}
 use mathlib.Core.Path.{sym, _∙_, ap}
 use Prim.Native.Nat.{ℕ, _≤_, _<_}
-use native.Mathlib.Omega.{arith}
 use Rattle.bits.specs.Below.{count}
 use Rattle.bits.proofs.Counting.{count-at}
 use Rattle.workflow.specs.Problem.{Plan, distinct}

@@ -1,22 +1,21 @@
 -- What a rule says of another level. Assumes nothing.
 use mathlib.Core.List.{List}
-use mathlib.Core.Path.{_≡_, sym, subst, ap, _∙_}
+use mathlib.Core.Path.{_≡_, ap, _∙_}
 use Prim.Native.Nat.{ℕ, _≤_, _<_}
 use native.Mathlib.Omega.{arith}
 use lib.Count.{ones}
 use lib.Dec.{eqb}
 use lib.ListN.{getD}
 use borrow.Author.Tests.{eqb-true, eqb-false}
-use Rattle.bits.specs.Below.{count}
 use Rattle.bits.specs.Word.{hasBit}
 use Rattle.bits.proofs.Below.{by-cases}
 use Rattle.bits.proofs.Counting.{count-le}
 use Rattle.bits.proofs.Ones.{ones-bits}
-use Rattle.workflow.specs.Problem.{Job, Plan}
+use Rattle.workflow.specs.Problem.{Job, Plan, InBounds}
 use Rattle.workflow.proofs.Counts.{distinct-le-scope, distinct-le}
 use Rattle.pattern.specs.declared.Size.{Size}
-use Rattle.pattern.specs.Given.{Given}
-use Rattle.pattern.specs.Rule.{levelIn, leastIn, mostIn, scopeIn, Packed}
+use Rattle.pattern.specs.Given.{Classed}
+use Rattle.pattern.specs.Rule.{levelIn, leastIn, mostIn, scopeIn, unpacked, Packed}
 use Rattle.pattern.specs.Tables.{classIn, jobIn}
 use Rattle.pattern.proofs.Leader.{leader-below, leader-class}
 use Rattle.pattern.proofs.Levels.{refining-up}
@@ -25,7 +24,7 @@ use Rattle.relax.specs.Relaxed.{Carriable, countAt, Follows}
 use Rattle.relax.proofs.Bounding.{bounded, needed}
 use Rattle.relax.proofs.Coarser.{some-class, coarser}
 
-module _ (size : Size) (class rule : List ℕ) (given : Given size class rule) where
+module _ (size : Size) (class rule : List ℕ) (given : Classed size class rule) where
   abbrev whole : Job
   whole = jobIn size class rule
 
@@ -68,78 +67,67 @@ module _ {size : Size} {class : List ℕ} {r q : ℕ} (w : Carriable size class 
   pub scope-few : ones (scopeIn r) ≤ 12
   scope-few = omega (arith, ones-bits (size .steps) (scopeIn r) (w .scope), count-le (size .steps) (hasBit (scopeIn r)), w .few-steps)
 
+  -- the plans that give each step one of the people
+  abbrev Within : Plan → Type 0
+  Within π = (s : ℕ) → s < size .steps → π s < size .people
+
+  -- a rule of level q for the same scope, whose limits hold wherever those of r do
+  follows-of : {least most s : ℕ} → Packed q least most (scopeIn r) s → least ≤ leastIn r → most ≤ size .steps
+      → ((π : Plan) → Within π → InBounds (unpacked r) (countAt size class r (levelIn r) π) → (least ≤ countAt size class r q π) × (countAt size class r q π ≤ most))
+      → Follows size class q r s
+  follows-of p low high holds =
+      record {
+        level = p .its-level;
+        scope = p .its-scope;
+        reachable = omega (arith, p .its-least, w .rule-ok .reachable);
+        bounded = omega (arith, p .its-most);
+        met = λ π within m.
+            let h = holds π within m in
+            record { least = omega (arith, p .its-least, h .0); most = omega (arith, p .its-most, h .1) };
+      }
+
   -- a finer level has as many classes at least, and no more than the scope has steps
   module _ (finer : levelIn r ≤ q) where
     nested : Nests (size .people) (classIn class (levelIn r)) (classIn class q)
     nested = w .nests (levelIn r) q (w .rule-ok .from) finer (w .to)
 
-    at-least : (π : Plan) → ((s : ℕ) → s < size .steps → π s < size .people) → leastIn r ≤ countAt size class r (levelIn r) π → leastIn r ≤ countAt size class r q π
+    at-least : (π : Plan) → Within π → leastIn r ≤ countAt size class r (levelIn r) π → leastIn r ≤ countAt size class r q π
     at-least π within l =
         let c = coarser (size .steps) (size .people) (hasBit (scopeIn r)) _ _ nested π within in
         omega arith
 
     pub follows-unlimited : {s : ℕ} → ones (scopeIn r) ≤ mostIn r → Packed q (leastIn r) (mostIn r) (scopeIn r) s → Follows size class q r s
-    follows-unlimited {s} l p =
-        record {
-          level = p .its-level;
-          scope = p .its-scope;
-          reachable = omega (arith, p .its-least, w .rule-ok .reachable);
-          bounded = omega (arith, p .its-most, w .rule-ok .bounded);
-          met = λ π within m.
-              let c = distinct-le-scope (size .steps) (hasBit (scopeIn r)) (λ t. classIn class q (π t)) in
-              let e = ones-bits (size .steps) (scopeIn r) (w .scope) in
-              let a = at-least π within (m .least) in
-              record { least = omega (arith, p .its-least); most = omega (arith, p .its-most) };
-        }
+    follows-unlimited l p =
+        follows-of p (omega arith) (w .rule-ok .bounded) (λ π within m.
+        let c = distinct-le-scope (size .steps) (hasBit (scopeIn r)) (λ t. classIn class q (π t)) in
+        let e = ones-bits (size .steps) (scopeIn r) (w .scope) in
+        (at-least π within (m .least), omega arith))
 
     module _ {ranks : List ℕ} (tally : Tally (size .people) (numbered (classIn class (levelIn r)) (classIn class q)) ranks) {s : ℕ} where
       pub follows-limited : together ranks (mostIn r) 63 < size .steps → Packed q (leastIn r) (together ranks (mostIn r) 63) (scopeIn r) s → Follows size class q r s
       follows-limited l p =
-          record {
-            level = p .its-level;
-            scope = p .its-scope;
-            reachable = omega (arith, p .its-least, w .rule-ok .reachable);
-            bounded = omega (arith, p .its-most);
-            met = λ π within m.
-                let b = bounded (size .people) (w .few-people) _ _ nested (size .steps) (hasBit (scopeIn r)) π within ranks tally (mostIn r) (m .most) in
-                let a = at-least π within (m .least) in
-                record { least = omega (arith, p .its-least); most = omega (arith, p .its-most) };
-          }
+          follows-of p (omega arith) (omega arith) (λ π within m. (
+            at-least π within (m .least),
+            bounded (size .people) (w .few-people) _ _ nested (size .steps) (hasBit (scopeIn r)) π within ranks tally (mostIn r) (m .most),
+          ))
 
       pub follows-all : Packed q (leastIn r) (size .steps) (scopeIn r) s → Follows size class q r s
       follows-all p =
-          record {
-            level = p .its-level;
-            scope = p .its-scope;
-            reachable = omega (arith, p .its-least, w .rule-ok .reachable);
-            bounded = omega (arith, p .its-most);
-            met = λ π within m.
-                let b = distinct-le (size .steps) (hasBit (scopeIn r)) (λ t. classIn class q (π t)) in
-                let a = at-least π within (m .least) in
-                record { least = omega (arith, p .its-least); most = omega (arith, p .its-most) };
-          }
+          follows-of p (omega arith) (omega arith)
+          (λ π within m. (at-least π within (m .least), distinct-le (size .steps) (hasBit (scopeIn r)) (λ t. classIn class q (π t))))
 
   -- a coarser level has as many classes at most, and enough of them for those of the rule's own level
   module _ (below : q ≤ levelIn r) where
     outer : Nests (size .people) (classIn class q) (classIn class (levelIn r))
     outer = w .nests q (levelIn r) (w .from) below (w .rule-ok .to)
 
-    at-most : (π : Plan) → ((s : ℕ) → s < size .steps → π s < size .people) → countAt size class r (levelIn r) π ≤ mostIn r → countAt size class r q π ≤ mostIn r
+    at-most : (π : Plan) → Within π → countAt size class r (levelIn r) π ≤ mostIn r → countAt size class r q π ≤ mostIn r
     at-most π within l =
         let c = coarser (size .steps) (size .people) (hasBit (scopeIn r)) _ _ outer π within in
         omega arith
 
     pub follows-one : {s : ℕ} → leastIn r < 2 → Packed q (leastIn r) (mostIn r) (scopeIn r) s → Follows size class q r s
-    follows-one {s} l p =
-        record {
-          level = p .its-level;
-          scope = p .its-scope;
-          reachable = omega (arith, p .its-least, w .rule-ok .reachable);
-          bounded = omega (arith, p .its-most, w .rule-ok .bounded);
-          met = λ π within m.
-              let a = at-most π within (m .most) in
-              record { least = subst (λ (k : ℕ). k ≤ countAt size class r q π) (sym (p .its-least)) (some π); most = omega (arith, p .its-most) };
-        }
+    follows-one l p = follows-of p (omega arith) (w .rule-ok .bounded) (λ π within m. (some π, at-most π within (m .most)))
       where
         some : (π : Plan) → leastIn r ≤ countAt size class r q π
         some π =
@@ -152,16 +140,9 @@ module _ {size : Size} {class : List ℕ} {r q : ℕ} (w : Carriable size class 
 
     pub follows-several : {ranks : List ℕ} {m s : ℕ} → Tally (size .people) (numbered (classIn class q) (classIn class (levelIn r))) ranks → 1 ≤ leastIn r
         → Needs ranks (leastIn r) m → Packed q m (mostIn r) (scopeIn r) s → Follows size class q r s
-    follows-several {ranks} {m} {s} tally l n p =
-        record {
-          level = p .its-level;
-          scope = p .its-scope;
-          reachable = omega (arith, p .its-least, n .to, w .rule-ok .reachable);
-          bounded = omega (arith, p .its-most, w .rule-ok .bounded);
-          met = λ π within k.
-              let a = at-most π within (k .most) in
-              let b = needed (size .people) (w .few-people) _ _ outer (size .steps) (hasBit (scopeIn r)) π within ranks tally (leastIn r) m n
-              (some-class (size .steps) (hasBit (scopeIn r)) _ (omega (arith, w .rule-ok .reachable))) (k .least)
-              in
-              record { least = omega (arith, p .its-least); most = omega (arith, p .its-most) };
-        }
+    follows-several {ranks} {m} tally l n p =
+        follows-of p (n .to) (w .rule-ok .bounded) (λ π within k. (
+          needed (size .people) (w .few-people) _ _ outer (size .steps) (hasBit (scopeIn r)) π within ranks tally (leastIn r) m n
+              (some-class (size .steps) (hasBit (scopeIn r)) _ (omega (arith, w .rule-ok .reachable))) (k .least),
+          at-most π within (k .most),
+        ))

@@ -8,13 +8,13 @@ use Rattle.bits.specs.Below.{count}
 use Rattle.bits.specs.Word.{hasBit}
 use Rattle.workflow.specs.Problem.{RuleOk, Job, Plan, Met, InBounds, distinct}
 use Rattle.pattern.specs.declared.Size.{Size}
-use Rattle.pattern.specs.Given.{Ruled, Given}
+use Rattle.pattern.specs.Given.{Ruled, Classed}
 use Rattle.pattern.specs.Realize.{leader}
 use Rattle.pattern.specs.Rule.{levelIn, scopeIn, unpacked}
 use Rattle.pattern.specs.Tables.{classIn, jobIn}
 use Rattle.relax.specs.Relaxed.{Carries, Relaxes}
 
-module _ (size : Size) (class rule : List ℕ) (given : Given size class rule) (q : ℕ) (from : 1 ≤ q) (to : q ≤ size .levels) (rule′ : List ℕ)
+module _ (size : Size) (class rule : List ℕ) (given : Classed size class rule) (q : ℕ) (from : 1 ≤ q) (to : q ≤ size .levels) (rule′ : List ℕ)
     (w : Carries size (size .rules) class rule q rule′) where
   abbrev whole : Job
   whole = jobIn size class rule

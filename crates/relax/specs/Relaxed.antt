@@ -7,7 +7,7 @@ use Rattle.bits.specs.Below.{count}
 use Rattle.bits.specs.Word.{hasBit}
 use Rattle.workflow.specs.Problem.{May, Plan, Valid, InBounds, RuleOk, distinct}
 use Rattle.pattern.specs.declared.Size.{Size}
-use Rattle.pattern.specs.Given.{Given}
+use Rattle.pattern.specs.Given.{Classed}
 use Rattle.pattern.specs.Rule.{levelIn, leastIn, mostIn, scopeIn, unpacked}
 use Rattle.pattern.specs.Tables.{classIn, jobIn}
 use Rattle.relax.specs.Bound.{Nests}
@@ -44,5 +44,5 @@ pub record Carries (size : Size) (n : ℕ) (class rule : List ℕ) (q : ℕ) (ru
 
 -- every valid plan is a valid plan of the relaxed job
 pub record Relaxes (size : Size) (class rule rule′ : List ℕ) : Type 0 where
-  pub given : Given size class rule′
+  pub given : Classed size class rule′
   pub valid : (may : May) (π : Plan) → Valid (jobIn size class rule) may π → Valid (jobIn size class rule′) may π

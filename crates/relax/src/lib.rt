@@ -2,21 +2,23 @@
 // scope are at most as many as those of a finer level, so an upper limit holds at a coarser level and a
 // lower limit at a finer one. In the other direction a limit is changed to what so many classes of the
 // one level have at the other.
+use bits::sizes::Classes;
+use bits::sizes::MOST_RULES;
+use bits::sizes::Rules;
 use bound::fewest;
 use bound::most;
 use bound::ranks;
 use pattern::Size;
 use pattern::rule;
-ghost use mathlib.Core.Path.{_≡_};
 ghost use Prim.Native.Nat.{_≤_, _<_};
-ghost use Rattle.pattern.specs.Given.{Given};
+ghost use Rattle.pattern.specs.Given.{Classed};
 ghost use Rattle.pattern.specs.Rule.{levelIn};
 ghost use Rattle.relax.specs.Relaxed.{Carriable, Follows, Carries};
 
 mod bound;
 
 // What a rule says of a finer level `q`. Where it limits nothing above, no more is said there.
-fn to_finer(size: Size, class: &[u8; 192], r: u32, q: usize) -> u32
+fn to_finer(size: Size, class: &Classes, r: u32, q: usize) -> u32
     requires { ⌜ Carriable size (now class) r q × (levelIn r ≤ q) ⌝ }
     ensures { λ s. ⌜ Follows size (now (class .entry)) q r s ⌝ }
 {
@@ -33,7 +35,7 @@ fn to_finer(size: Size, class: &[u8; 192], r: u32, q: usize) -> u32
 }
 
 // What a rule says of a coarser level `q`. One class is what every plan has.
-fn to_coarser(size: Size, class: &[u8; 192], r: u32, q: usize) -> u32
+fn to_coarser(size: Size, class: &Classes, r: u32, q: usize) -> u32
     requires { ⌜ Carriable size (now class) r q × (q ≤ levelIn r) ⌝ }
     ensures { λ s. ⌜ Follows size (now (class .entry)) q r s ⌝ }
 {
@@ -47,7 +49,7 @@ fn to_coarser(size: Size, class: &[u8; 192], r: u32, q: usize) -> u32
 }
 
 // What a rule says of level `q`.
-fn say(size: Size, class: &[u8; 192], r: u32, q: usize) -> u32
+fn say(size: Size, class: &Classes, r: u32, q: usize) -> u32
     requires { ⌜ Carriable size (now class) r q ⌝ }
     ensures { λ s. ⌜ Follows size (now (class .entry)) q r s ⌝ }
 {
@@ -58,11 +60,11 @@ fn say(size: Size, class: &[u8; 192], r: u32, q: usize) -> u32
 }
 
 // The rules of a job, carried to level `q`.
-pub fn carry(size: Size, class: &[u8; 192], rule: &[u32; 64], q: usize) -> [u32; 64]
-    requires { ⌜ Given size (now class) (now rule) × (1 ≤ q) × (q ≤ size .levels) ⌝ }
+pub fn carry(size: Size, class: &Classes, rule: &Rules, q: usize) -> Rules
+    requires { ⌜ Classed size (now class) (now rule) × (1 ≤ q) × (q ≤ size .levels) ⌝ }
     ensures { λ r. ⌜ Carries size (size .rules) (now (class .entry)) (now (rule .entry)) q r ⌝ }
 {
-    let mut carried = [0u32; 64];
+    let mut carried = [0u32; MOST_RULES];
     let rules = size.rules;
     for i in 0..rules {
         carried[i] = say(size, class, rule[i], q);

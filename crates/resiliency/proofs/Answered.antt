@@ -6,9 +6,9 @@ use lib.ListN.{length}
 use borrow.Author.Tests.{lt-ltb, le-ltb}
 use native.Mathlib.Omega.{arith}
 use Rattle.sheet.specs.Answer.{jobOf, answer, sheetOf}
-use Rattle.answer.specs.Number.{numberOf}
+use Rattle.answer.specs.Number.{refusalNumber, numberOf}
 use Rattle.sheet.specs.Readable.{ReadableJob, ReadSheet}
-use Rattle.sheet.specs.declared.Job as sheet
+use Rattle.sheet.specs.declared.SheetJob as sheet
 use Rattle.sheet.specs.declared.Sheet.{Sheet}
 use Rattle.sheet.specs.declared.Reading.the-variants.{Readable, Refused}
 use Rattle.sheet.proofs.Readable.{read-sheet-job}
@@ -16,10 +16,10 @@ use Rattle.sheet.specs.Read.{Read, job, fault, readSheet}
 use Rattle.workflow.specs.Problem.{Job, May, Satisfiable}
 use Rattle.instance.specs.Instance.{instanceOf, mayOf}
 use Rattle.answer.specs.Bytes.{Outcome, refused}
-use Rattle.answer.specs.Refusals.{shortFault, capFault, planFault}
+use Rattle.card.specs.Refusals.{shortFault, capFault, planFault}
 use Rattle.resiliency.specs.Away.{Resilient, FirstBreaking}
 use Rattle.resiliency.specs.Count.{Spare, unsatisfiable, capped, broken, spare, IsSpare}
-use Rattle.resiliency.specs.Spare.{capLimit, spareSize, counted, answered, spareOf, spareRead, spareAnswer}
+use Rattle.resiliency.specs.Spare.{capLimit, spareSize, countBytes, spareBytes, spareOf, spareRead, spareAnswer}
 use Rattle.resiliency.specs.Left.{Left}
 use Rattle.resiliency.proofs.Laws.{spare-unique}
 
@@ -54,24 +54,24 @@ module _ (cap : ℕ) (s buffer : List ℕ) where
     buffer-short h = cap-taken l ∙ rw (e, lt-ltb (length buffer) spareSize h) refl
 
     -- what is written is what is the spare count
-    pub call-answered : spareSize ≤ length buffer → (r : Spare) → IsSpare theJob theMay cap r → spareAnswer cap s buffer ≡ answered tags cap buffer r
+    pub call-answered : spareSize ≤ length buffer → (r : Spare) → IsSpare theJob theMay cap r → spareAnswer cap s buffer ≡ spareBytes tags cap buffer r
     unfolding spareRead spareOf
-    call-answered h r w = cap-taken l ∙ rw (e, le-ltb (length buffer) spareSize h) (ap (answered tags cap buffer) (spare-unique theJob theMay cap r w))
+    call-answered h r w = cap-taken l ∙ rw (e, le-ltb (length buffer) spareSize h) (ap (spareBytes tags cap buffer) (spare-unique theJob theMay cap r w))
 
     -- "13: no valid plan with everyone present"
     pub call-unsatisfiable : spareSize ≤ length buffer → (Satisfiable theJob theMay → ⊥) → spareAnswer cap s buffer ≡ refused planFault 0 buffer
-    unfolding answered
+    unfolding spareBytes
     call-unsatisfiable h w = call-answered h unsatisfiable w
 
     -- every set of at most c people leaves a valid plan
-    pub call-capped : spareSize ≤ length buffer → Resilient theJob theMay cap → spareAnswer cap s buffer ≡ counted tags cap [] buffer
-    unfolding answered
+    pub call-capped : spareSize ≤ length buffer → Resilient theJob theMay cap → spareAnswer cap s buffer ≡ countBytes tags cap [] buffer
+    unfolding spareBytes
     call-capped h w = call-answered h capped w
 
     -- t below c, and the first group of t + 1 whose absence leaves none
     pub call-broken : spareSize ≤ length buffer → (t : ℕ) (away : List ℕ) → t < cap → Resilient theJob theMay t → FirstBreaking theJob theMay (suc t) away
-        → spareAnswer cap s buffer ≡ counted tags t away buffer
-    unfolding answered
+        → spareAnswer cap s buffer ≡ countBytes tags t away buffer
+    unfolding spareBytes
     call-broken h t away b r f = call-answered h (broken t away) (b, r, f)
 
 -- ---- what the code knows of the sheet that it has read
@@ -85,14 +85,14 @@ unfolding answer
 answer-refusal s (job people steps rules) f c e = let z : _≡_ {A = ℕ} 0 1 = cc in absurd (omega arith)
 answer-refusal s (fault g d) f c e = cc
 
-spare-counts : (cap : ℕ) (s buffer people steps rules : List ℕ) (p n u : ℕ) (j : sheet.Job) → length people ≡ p → length steps ≡ n → length rules ≡ u
+spare-counts : (cap : ℕ) (s buffer people steps rules : List ℕ) (p n u : ℕ) (j : sheet.SheetJob) → length people ≡ p → length steps ≡ n → length rules ≡ u
     → j ≡ jobOf s people steps rules → readSheet s ≡ job people steps rules → spareRead cap s buffer (readSheet s) ≡ spareOf cap p n u j buffer
 unfolding spareRead
 spare-counts cap s buffer people steps rules p n u j a b c d e = rw e (cc)
 
 module _ (cap : ℕ) (s buffer : List ℕ) where
-  pub left-cap : capLimit < cap → Left (spareAnswer cap s buffer) 512 buffer
-  left-cap l = left-same (cap-refused cap s buffer l) (record { number = refl; bytes = refl })
+  pub left-cap : (m : ℕ) → m ≡ refusalNumber capFault 0 → capLimit < cap → Left (spareAnswer cap s buffer) m buffer
+  left-cap m e l = left-same (cap-refused cap s buffer l) (record { number = e; bytes = refl })
 
   pub left-refused : (a : Sheet) → a ≡ sheetOf s → cap ≤ capLimit → (f c n : ℕ) → a .reading ≡ Refused f c → n ≡ numberOf (a .reading)
       → Left (spareAnswer cap s buffer) n buffer
@@ -107,10 +107,10 @@ module _ (cap : ℕ) (s buffer : List ℕ) where
     pub job-readable : ReadableJob p n u (a .job)
     job-readable = subst (λ (x : Sheet). ReadableJob p n u (x .job)) (sym e) (sheet-read .readable)
 
-    pub left-short : length buffer < spareSize → Left (spareAnswer cap s buffer) 256 buffer
-    left-short h =
+    pub left-short : (m : ℕ) → m ≡ refusalNumber shortFault 0 → length buffer < spareSize → Left (spareAnswer cap s buffer) m buffer
+    left-short m q h =
         let w = sheet-read in
-        left-same (buffer-short cap s buffer (w .person-cards) (w .step-cards) (w .rule-cards) l (w .read) h) (record { number = refl; bytes = refl })
+        left-same (buffer-short cap s buffer (w .person-cards) (w .step-cards) (w .rule-cards) l (w .read) h) (record { number = q; bytes = refl })
 
     spare-read : spareAnswer cap s buffer ≡ spareOf cap p n u (a .job) buffer
     spare-read =
@@ -120,7 +120,7 @@ module _ (cap : ℕ) (s buffer : List ℕ) where
         (ap (λ (x : Sheet). x .job) e ∙ w .filled) (w .read)
 
     pub left-count : spareSize ≤ length buffer → (r : Spare) (m : ℕ) (bs : List ℕ) → r ≡ spare (instanceOf p n u (a .job)) (mayOf (a .job)) cap
-        → Left (answered (a .job .«person_tag») cap buffer r) m bs → Left (spareAnswer cap s buffer) m bs
+        → Left (spareBytes (a .job .«person_tag») cap buffer r) m bs → Left (spareAnswer cap s buffer) m bs
     unfolding spareOf
     left-count h r m bs x y =
-        left-same (spare-read ∙ rw (le-ltb (length buffer) spareSize h) (ap (answered (a .job .«person_tag») cap buffer) (sym x))) y
+        left-same (spare-read ∙ rw (le-ltb (length buffer) spareSize h) (ap (spareBytes (a .job .«person_tag») cap buffer) (sym x))) y

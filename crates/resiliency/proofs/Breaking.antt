@@ -16,7 +16,8 @@ use Rattle.workflow.proofs.First.{found-cases, Candidate, Answer, tryAll-answer
 use Rattle.workflow.proofs.Valid.{satisfiable-mono}
 use Rattle.workflow.proofs.Order.{compare-plans}
 use Rattle.workflow.proofs.Lists.{planOf-unique}
-use Rattle.resiliency.specs.Away.{without, member, Group, Breaks, FirstBreaking, increasing, breaking}
+use Rattle.bits.specs.Member.{member}
+use Rattle.resiliency.specs.Away.{without, Group, Breaks, FirstBreaking, increasing, breaking}
 use Rattle.resiliency.specs.Count.{firstBreaking}
 
 -- fewer away leave no fewer plans: where those of b are all in a

@@ -12,28 +12,9 @@ use Rattle.bits.specs.Below.{count}
 use Rattle.bits.proofs.Below.{by-cases, true-false, below-suc}
 use Rattle.bits.proofs.Counting.{is-false, count-none, count-insert, count-true, count-false, count-zero}
 use Rattle.workflow.proofs.Lists.{length-snoc, snoc-before, snoc-at}
-use Rattle.resiliency.specs.Away.{member, Group}
-
--- the place of a member
-pub member-at : (xs : List ℕ) (p : ℕ) → member xs p ≡ true → (i : ℕ) × (i < length xs) × (getD xs i 0 ≡ p)
-unfolding member
-member-at [] p h = true-false h refl
-member-at (x ∷ xs) p h =
-    by-cases (eqb p x)
-    (λ t. (0, omega arith, sym (eqb-true p x t)))
-    (λ t. let w : (i : ℕ) × (i < length xs) × (getD xs i 0 ≡ p) = member-at xs p (rw t at h) in (suc (w .0), omega (arith, w .1), w .2))
-
--- what stands at a place is a member
-pub member-of : (xs : List ℕ) (i : ℕ) → i < length xs → member xs (getD xs i 0) ≡ true
-unfolding member
-member-of [] i l = absurd (not-suc-le-zero l)
-member-of (x ∷ xs) zero l = rw (eq-eqb x x refl) refl
-member-of (x ∷ xs) (suc i) l =
-    by-cases (eqb (getD xs i 0) x) (λ t. rw t refl) (λ t. rw t (member-of xs i (omega arith)))
-
--- what has a place is a member
-pub member-has : (xs : List ℕ) (i p : ℕ) → i < length xs → getD xs i 0 ≡ p → member xs p ≡ true
-member-has xs i p l e = subst (λ (x : ℕ). member xs x ≡ true) e (member-of xs i l)
+use Rattle.bits.specs.Member.{member}
+use Rattle.bits.proofs.Member.{member-place, member-of, member-has}
+use Rattle.resiliency.specs.Away.{Group}
 
 module _ (people k : ℕ) (xs : List ℕ) (g : Group people k xs) where
   -- a later place has a later person
@@ -47,7 +28,7 @@ module _ (people k : ℕ) (xs : List ℕ) (g : Group people k xs) where
 
   -- the members are people of the job
   pub group-within : (p : ℕ) → member xs p ≡ true → p < people
-  group-within p h = let w = member-at xs p h in subst (λ (x : ℕ). x < people) (w .2) (g .within (w .0) (omega (arith, w .1, g .size)))
+  group-within p h = let w = member-place xs p h in subst (λ (x : ℕ). x < people) (w .2) (g .within (w .0) (omega (arith, w .1, g .size)))
 
 -- the rest of a group
 group-tail : (people k x : ℕ) (xs : List ℕ) → Group people (suc k) (x ∷ xs) → Group people k xs
@@ -76,7 +57,7 @@ group-count people (suc k) (x ∷ xs) g =
     fresh : Group people k xs → member xs x ≡ false
     fresh t =
         is-false (member xs x)
-        (λ h. let w = member-at xs x h in
+        (λ h. let w = member-place xs x h in
         let b : w .0 < length xs = w .1 in
         let e : length xs ≡ k = t .size in
         let o : x < getD xs (w .0) 0 = group-later people (suc k) (x ∷ xs) g 0 (suc (w .0)) (omega arith) (omega arith) in
@@ -118,7 +99,7 @@ members-more n away xs m t =
                 (λ d. rw (d, snoc-at xs n, snoc-before xs n i (omega arith)) (m .group .within i (omega arith)));
           });
       has = λ p l h. below-suc n p l
-          (λ b. let w = member-at xs p (m .has p b h) in
+          (λ b. let w = member-place xs p (m .has p b h) in
           member-has (xs ++ (n ∷ [])) (w .0) p (omega (arith, w .1)) (snoc-before xs n (w .0) (w .1) ∙ w .2))
           (λ d. member-has (xs ++ (n ∷ [])) (length xs) p (omega arith) (snoc-at xs n ∙ sym d));
     }

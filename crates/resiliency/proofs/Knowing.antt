@@ -20,7 +20,7 @@ use Rattle.workflow.proofs.Valid.{valid-mono, satisfiable-mono}
 use Rattle.search.specs.Existence.{Existence}
 use Rattle.pattern.specs.Tables.{mayIn, planIn}
 use Rattle.resiliency.specs.Away.{without}
-use Rattle.resiliency.specs.Known.{Remaining, Uses, Noted, inFront, Moved, Known, Kept, Needed, Stood}
+use Rattle.resiliency.specs.Known.{Remaining, Uses, Noted, inFront, Moved, Known, KeptPlan, Needed, Stood}
 
 -- ---- the masks of the steps without the people away
 
@@ -179,7 +179,7 @@ module _ (j : Job) (may : May) where
 
   -- a plan found is kept in front of the others
   pub known-kept : (plan known known′ plans plans′ : List ℕ) (mask : ℕ) → Known j may known plans → Valid j may (planIn plan)
-      → Kept (j .steps) plan mask known plans known′ plans′ → Known j may known′ plans′
+      → KeptPlan (j .steps) plan mask known plans known′ plans′ → Known j may known′ plans′
   known-kept plan known known′ plans plans′ mask k v h =
       record {
         sized = h .noted .sized;
@@ -251,7 +251,7 @@ module _ {j : Job} {may rest : List ℕ} {away : ℕ} {plan plan′ : List ℕ} 
 
   pub searched-won : {words words′ plans plans′ weight : List ℕ} {mask : ℕ} → Known j (mayIn may) words plans
       → Remaining may away 12 rest → j .steps ≤ 12 → Existence j (mayIn rest) plan plan′ r → r ≡ true
-      → Kept (j .steps) plan′ mask words plans words′ plans′
+      → KeptPlan (j .steps) plan′ mask words plans words′ plans′
       → length weight ≡ 12 → Stood j (mayIn may) (hasBit away) words′ plans′ weight true mask
   searched-won {words} {words′} {plans} {plans′} {mask = mask} k m l x e u w =
       let v : Valid j (without (mayIn may) (hasBit away)) (planIn plan′)

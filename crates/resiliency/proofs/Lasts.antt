@@ -9,13 +9,15 @@ use lib.Dec.{eqb, ltb}
 use lib.ListN.{length, getD}
 use borrow.Author.Tests.{eqb-true, eq-eqb, ltb-true, ltb-false, lt-ltb, le-ltb, not-true}
 use Rattle.bits.specs.Word.{hasBit}
-use Rattle.bits.specs.Set.{unlike, Added, Removed, Lowest}
+use Rattle.bits.specs.Set.{unlike, Added, FirstAndRest}
 use Rattle.bits.proofs.Below.{by-cases, true-false, and-right}
 use Rattle.bits.proofs.Counting.{is-false}
-use Rattle.bits.proofs.SetLaws.{and-bit, and-bit-left, and-bit-right, xor-bit, empty-lacks, zero-empty, part-le, added-keeps, removed-other, removed-was, removed-less}
+use Rattle.bits.proofs.SetLaws.{and-bit, and-bit-left, and-bit-right, xor-bit, empty-lacks, zero-empty, added-keeps, removed-other}
+use Rattle.bits.proofs.Masks.{taken-was}
 use Rattle.bits.specs.Set.{Mask}
 use Rattle.workflow.specs.Problem.{Job, May, Satisfiable}
-use Rattle.resiliency.specs.Away.{without, member}
+use Rattle.bits.specs.Member.{member}
+use Rattle.resiliency.specs.Away.{without}
 use Rattle.resiliency.specs.Known.{Known, Suits, Needed, Within, Stood, joined, Last}
 use Rattle.resiliency.proofs.Breaking.{fewer-away}
 use Rattle.resiliency.proofs.Knowing.{and-other, valid-without, without-valid}
@@ -111,7 +113,7 @@ module _ {j : Job} {may : May} {away from : ℕ} where
 
   -- a plan found without c answers for c and for all whom it does not need
   pub trying-next : {words plans weight words′ plans′ weight′ : List ℕ} {rest left c x needs : ℕ} {r : Bool}
-      → Trying j may away from rest words plans weight → Removed rest c left → Added away c x
+      → Trying j may away from rest words plans weight → FirstAndRest rest c left → Added away c x
       → Stood j may (hasBit x) words′ plans′ weight′ r needs → r ≡ true
       → Trying j may away from (bitAnd left needs) words′ plans′ weight′
   trying-next {rest = rest} {left} {c} {x} {needs} t d f s e =
@@ -120,13 +122,13 @@ module _ {j : Job} {may : May} {away from : ℕ} where
         known = s .known;
         weights = s .weights;
         start = t .start;
-        within = λ p h. t .within p (removed-was d p (and-bit-left left needs p h));
+        within = λ p h. t .within p (taken-was d p (and-bit-left left needs p h));
         passed = λ p a b h.
             by-cases (hasBit rest p)
             (λ u. by-cases (eqb p c)
             (λ q. subst (λ (z : ℕ). Satisfiable j (without may (joined away z))) (sym (eqb-true p c q))
             (fewer-away j may (hasBit x) (joined away c) (λ z l m. f .each z ∙ m) (w .0, w .1)))
-            (λ q. other w p (and-other (hasBit left p) _ (removed-other d p (λ z. true-false (eq-eqb p c z) q) ∙ u) (sym (and-bit left needs p) ∙ h))))
+            (λ q. other w p (and-other (hasBit left p) _ (removed-other (d .removed) p (λ z. true-false (eq-eqb p c z) q) ∙ u) (sym (and-bit left needs p) ∙ h))))
             (λ u. t .passed p a b u);
       }
     where
@@ -140,17 +142,17 @@ module _ {j : Job} {may : May} {away from : ℕ} where
       )
 
   -- none is found without c
-  pub trying-found : {words plans weight words′ plans′ weight′ : List ℕ} {rest c x needs : ℕ} {r : Bool}
-      → Trying j may away from rest words plans weight → Lowest rest c → Added away c x
+  pub trying-found : {words plans weight words′ plans′ weight′ : List ℕ} {rest left c x needs : ℕ} {r : Bool}
+      → Trying j may away from rest words plans weight → FirstAndRest rest c left → Added away c x
       → Stood j may (hasBit x) words′ plans′ weight′ r needs → r ≡ false → Last j may away from words′ plans′ weight′ c
   trying-found {c = c} {x} t l f s e =
-      let w = t .within c (l .has) in
+      let w = t .within c (l .lowest .has) in
       record {
         known = s .known;
         weights = s .weights;
         after = w .0;
         within = omega (arith, w .1);
-        passed = λ p a b. t .passed p a (omega (arith, w .1)) (l .before p b);
+        passed = λ p a b. t .passed p a (omega (arith, w .1)) (l .lowest .before p b);
         breaks = λ b h. s .lost e (fewer-away j may (joined away c) (hasBit x) (λ z m u. sym (f .each z) ∙ u) h);
       }
 
@@ -166,12 +168,6 @@ module _ {j : Job} {may : May} {away from : ℕ} where
         passed = λ p a b. t .passed p a b (zero-empty rest e p);
         breaks = λ l. absurd (omega arith);
       }
-
--- each turn leaves fewer to try
-pub trying-less : {rest left c : ℕ} (needs : ℕ) → Lowest rest c → Removed rest c left → bitAnd left needs < rest
-trying-less {rest} {left} {c} needs l d =
-    let a : bitAnd left needs ≤ left = part-le (bitAnd left needs) left (and-bit-left left needs) in
-    let b : left < rest = removed-less (l .has) d in omega arith
 
 -- ---- the groups that differ in their last member
 

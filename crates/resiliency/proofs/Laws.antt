@@ -15,8 +15,9 @@ use Rattle.workflow.specs.Problem.{Job, May, Satisfiable}
 use Rattle.workflow.specs.First.{planOf, firstPlan}
 use Rattle.workflow.proofs.First.{found-cases, firstPlan-found, firstPlan-nothing}
 use Rattle.workflow.proofs.Valid.{satisfiable-mono}
-use Rattle.resiliency.specs.Away.{without, Resilient, member, Group, Breaks, FirstBreaking}
-use Rattle.resiliency.specs.Count.{Spare, unsatisfiable, capped, broken, firstBreaking, walk, spare, countOf, IsSpare, Largest}
+use Rattle.bits.specs.Member.{member}
+use Rattle.resiliency.specs.Away.{without, Resilient, Group, Breaks, FirstBreaking}
+use Rattle.resiliency.specs.Count.{Spare, unsatisfiable, capped, broken, firstBreaking, countFrom, spare, countOf, IsSpare, Largest}
 use Rattle.resiliency.proofs.Groups.{group-count, membersOf, members-group, members-has}
 use Rattle.resiliency.proofs.Breaking.{fewer-away, firstBreaking-found, firstBreaking-nothing, firstBreaking-unique}
 
@@ -57,8 +58,8 @@ module _ (j : Job) (may : May) where
   breaks-not-resilient k xs g b u l r = b (r (member xs) (let z : count (j .people) (member xs) ≡ k = group-count (j .people) k xs g in omega arith))
 
   -- the sizes above t, up to the cap
-  walk-is-spare : (cap left t : ℕ) → left + t ≡ cap → Resilient j may t → IsSpare j may cap (walk j may left t)
-  unfolding walk
+  walk-is-spare : (cap left t : ℕ) → left + t ≡ cap → Resilient j may t → IsSpare j may cap (countFrom j may left t)
+  unfolding countFrom
   walk-is-spare cap zero t e r = let z : t ≡ cap = omega arith in subst (Resilient j may) z r
   walk-is-spare cap (suc left) t e r =
       let rest = walk-is-spare cap left (suc t) (omega arith) in

@@ -15,9 +15,10 @@ use Rattle.workflow.specs.First.{Found, found, nothing, firstPlan}
 use Rattle.workflow.proofs.First.{found-cases, firstPlan-nothing}
 use Rattle.pattern.specs.Tables.{planIn}
 use Rattle.search.specs.Existence.{Existence}
-use Rattle.resiliency.specs.Away.{without, Resilient, member, Group, FirstBreaking}
-use Rattle.resiliency.specs.Count.{Spare, unsatisfiable, capped, broken, endsAt, firstBreaking, walk, spare, IsSpare}
-use Rattle.resiliency.specs.Known.{Known, Kept, Walked, told}
+use Rattle.bits.specs.Member.{member}
+use Rattle.resiliency.specs.Away.{without, Resilient, Group, FirstBreaking}
+use Rattle.resiliency.specs.Count.{Spare, unsatisfiable, capped, broken, endsAt, firstBreaking, countFrom, spare, IsSpare}
+use Rattle.resiliency.specs.Known.{Known, KeptPlan, WalkedSets, told}
 use Rattle.resiliency.proofs.Spared.{the-type}
 use Rattle.resiliency.specs.declared.Spared.{Spared}
 use Rattle.resiliency.specs.declared.Spared.the-variants.{Unsatisfiable, Capped, One, Two, Three}
@@ -47,52 +48,53 @@ endsAt-other : (t : ℕ) (f : Found) (r rest : Spare) → (r ≡ capped → ⊥)
 endsAt-other t (found xs) r rest d e = e
 endsAt-other t nothing r rest d e = absurd (d e)
 
-pub walk-none : (j : Job) (may : May) (t : ℕ) → capped ≡ walk j may 0 t
-unfolding walk
+pub walk-none : (j : Job) (may : May) (t : ℕ) → capped ≡ countFrom j may 0 t
+unfolding countFrom
 walk-none j may t = refl
 
-pub after-none : (j : Job) (may : May) (cap : ℕ) → cap ≡ 0 → capped ≡ walk j may cap 0
+pub after-none : (j : Job) (may : May) (cap : ℕ) → cap ≡ 0 → capped ≡ countFrom j may cap 0
 after-none j may cap e = rw e (walk-none j may 0)
 
 module _ {j : Job} {may : May} where
   -- the walk from t on, where the groups of t + 1 are gone through
-  pub walk-goes-on : (left t : ℕ) {words plans weight : List ℕ} {r : Spared} → Walked j may t words plans weight r → r ≡ Capped
-      → walk j may (suc left) t ≡ walk j may left (suc t)
-  unfolding walk
+  pub walk-goes-on : (left t : ℕ) {words plans weight : List ℕ} {r : Spared} → WalkedSets j may t words plans weight r → r ≡ Capped
+      → countFrom j may (suc left) t ≡ countFrom j may left (suc t)
+  unfolding countFrom
   walk-goes-on left t w e = rw (endsAt-capped t (firstBreaking j may (suc t)) (sym (ap told e) ∙ w .answer)) refl
 
-  pub walk-ends : (left t : ℕ) {words plans weight : List ℕ} {r : Spared} → Walked j may t words plans weight r → (told r ≡ capped → ⊥)
-      → told r ≡ walk j may (suc left) t
-  unfolding walk
-  walk-ends left t {r = r} w d = endsAt-other t (firstBreaking j may (suc t)) (told r) (walk j may left (suc t)) d (w .answer)
+  pub walk-ends : (left t : ℕ) {words plans weight : List ℕ} {r : Spared} → WalkedSets j may t words plans weight r → (told r ≡ capped → ⊥)
+      → told r ≡ countFrom j may (suc left) t
+  unfolding countFrom
+  walk-ends left t {r = r} w d = endsAt-other t (firstBreaking j may (suc t)) (told r) (countFrom j may left (suc t)) d (w .answer)
 
   -- the last size
-  pub walk-last : (t : ℕ) {words plans weight : List ℕ} {r : Spared} → Walked j may t words plans weight r → told r ≡ walk j may 1 t
-  unfolding walk
+  pub walk-last : (t : ℕ) {words plans weight : List ℕ} {r : Spared} → WalkedSets j may t words plans weight r → told r ≡ countFrom j may 1 t
+  unfolding countFrom
   walk-last t w = w .answer
 
   -- the cap is reached, or a group is found, after one size, two and three
-  pub found-one : (cap : ℕ) {words plans weight : List ℕ} {r : Spared} → (cap ≡ 0 → ⊥) → Walked j may 0 words plans weight r → (told r ≡ capped → ⊥)
-      → told r ≡ walk j may cap 0
+  pub found-one : (cap : ℕ) {words plans weight : List ℕ} {r : Spared} → (cap ≡ 0 → ⊥) → WalkedSets j may 0 words plans weight r → (told r ≡ capped → ⊥)
+      → told r ≡ countFrom j may cap 0
   found-one zero z w d = absurd (z refl)
   found-one (suc cap) z w d = walk-ends cap 0 w d
 
-  pub after-one : (cap : ℕ) {words plans weight : List ℕ} {r : Spared} → cap ≡ 1 → Walked j may 0 words plans weight r → r ≡ Capped → capped ≡ walk j may cap 0
+  pub after-one : (cap : ℕ) {words plans weight : List ℕ} {r : Spared} → cap ≡ 1 → WalkedSets j may 0 words plans weight r → r ≡ Capped → capped ≡ countFrom j may cap 0
   after-one cap e w h = rw e (walk-none j may 1 ∙ sym (walk-goes-on 0 0 w h))
 
-  pub found-two : (cap : ℕ) {words plans weight words′ plans′ weight′ : List ℕ} {r q : Spared} → (cap ≡ 0 → ⊥) → (cap ≡ 1 → ⊥) → Walked j may 0 words plans weight r → r ≡ Capped
-      → Walked j may 1 words′ plans′ weight′ q → (told q ≡ capped → ⊥) → told q ≡ walk j may cap 0
+  pub found-two : (cap : ℕ) {words plans weight words′ plans′ weight′ : List ℕ} {r q : Spared} → (cap ≡ 0 → ⊥) → (cap ≡ 1 → ⊥)
+      → WalkedSets j may 0 words plans weight r → r ≡ Capped → WalkedSets j may 1 words′ plans′ weight′ q → (told q ≡ capped → ⊥) → told q ≡ countFrom j may cap 0
   found-two zero z o w h x d = absurd (z refl)
   found-two (suc zero) z o w h x d = absurd (o refl)
   found-two (suc (suc cap)) z o w h x d = walk-ends cap 1 x d ∙ sym (walk-goes-on (suc cap) 0 w h)
 
-  pub after-two : (cap : ℕ) {words plans weight words′ plans′ weight′ : List ℕ} {r q : Spared} → cap ≡ 2 → Walked j may 0 words plans weight r → r ≡ Capped
-      → Walked j may 1 words′ plans′ weight′ q → q ≡ Capped → capped ≡ walk j may cap 0
+  pub after-two : (cap : ℕ) {words plans weight words′ plans′ weight′ : List ℕ} {r q : Spared} → cap ≡ 2 → WalkedSets j may 0 words plans weight r → r ≡ Capped
+      → WalkedSets j may 1 words′ plans′ weight′ q → q ≡ Capped → capped ≡ countFrom j may cap 0
   after-two cap e w h x k = rw e (walk-none j may 2 ∙ sym (walk-goes-on 0 1 x k) ∙ sym (walk-goes-on 1 0 w h))
 
-  pub after-three : (cap : ℕ) {words plans weight words′ plans′ weight′ words″ plans″ weight″ : List ℕ} {r q p : Spared} → cap ≤ 3 → (cap ≡ 0 → ⊥) → (cap ≡ 1 → ⊥) → (cap ≡ 2 → ⊥)
-      → Walked j may 0 words plans weight r → r ≡ Capped → Walked j may 1 words′ plans′ weight′ q → q ≡ Capped → Walked j may 2 words″ plans″ weight″ p
-      → told p ≡ walk j may cap 0
+  pub after-three : (cap : ℕ) {words plans weight words′ plans′ weight′ words″ plans″ weight″ : List ℕ} {r q p : Spared}
+      → cap ≤ 3 → (cap ≡ 0 → ⊥) → (cap ≡ 1 → ⊥) → (cap ≡ 2 → ⊥)
+      → WalkedSets j may 0 words plans weight r → r ≡ Capped → WalkedSets j may 1 words′ plans′ weight′ q → q ≡ Capped → WalkedSets j may 2 words″ plans″ weight″ p
+      → told p ≡ countFrom j may cap 0
   after-three cap l z o t w h x k y =
       let e : cap ≡ 3 = omega arith in rw e (walk-last 2 y ∙ sym (walk-goes-on 1 1 x k) ∙ sym (walk-goes-on 2 0 w h))
 
@@ -101,14 +103,14 @@ module _ {j : Job} {may : May} where
   spare-none cap x e = sym (spare-unique j may cap unsatisfiable (x .lost e))
 
   -- a plan with everyone present
-  pub spare-walk : {plan plan′ : List ℕ} {r : Bool} (cap : ℕ) → Existence j may plan plan′ r → r ≡ true → spare j may cap ≡ walk j may cap 0
+  pub spare-walk : {plan plan′ : List ℕ} {r : Bool} (cap : ℕ) → Existence j may plan plan′ r → r ≡ true → spare j may cap ≡ countFrom j may cap 0
   unfolding spare
   spare-walk cap x e =
       found-cases (firstPlan j may) (λ xs d. rw d refl) (λ d. absurd (firstPlan-nothing j may d _ (x .won e)))
 
   -- the first plan is known
   pub known-first : {plan plan′ words plans : List ℕ} {r : Bool} {mask : ℕ} → Existence j may plan plan′ r → r ≡ true → j .people ≤ 64
-      → Kept (j .steps) plan′ mask (replicate {A = ℕ} 64 0) (replicate {A = ℕ} 64 18446744073709551615) words plans
+      → KeptPlan (j .steps) plan′ mask (replicate {A = ℕ} 64 0) (replicate {A = ℕ} 64 18446744073709551615) words plans
       → Known j may words plans
   known-first {plan′ = plan′} {words} {plans} {mask = mask} x e l u =
       known-kept j may plan′ (replicate {A = ℕ} 64 0) words (replicate {A = ℕ} 64 18446744073709551615) plans mask

@@ -8,15 +8,17 @@ use lib.Bits.{bitAnd, bitXor}
 use lib.Dec.{ltb}
 use lib.ListN.{length, getD}
 use Rattle.bits.specs.Word.{hasBit}
-use Rattle.bits.specs.Set.{Added, Removed, Lowest, Mask}
+use Rattle.bits.specs.Set.{Added, FirstAndRest, Mask}
 use Rattle.workflow.specs.Problem.{Job, May}
 use Rattle.workflow.specs.First.{found, nothing}
 use Rattle.resiliency.specs.Count.{broken, firstBreaking}
-use Rattle.resiliency.specs.Known.{Known, Needed, Stood, Last, Walked, told}
+use Rattle.resiliency.specs.Known.{Known, Needed, Stood, Last, WalkedSets, told}
 use Rattle.resiliency.specs.declared.Spared.{Spared}
 use Rattle.resiliency.specs.declared.Spared.the-variants.{Capped, One, Two, Three}
-use Rattle.resiliency.proofs.Lasts.{Trying, Masks, range-all, range-above, suits-nobody, suits-one, suits-two, trying-start, trying-next, trying-found, trying-end, masks-nobody, masks-more, last-stands, last-breaks}
-use Rattle.resiliency.proofs.Walking.{ones-all, ones-found, Twos, twos-none, twos-next, twos-all, twos-found, Threes, ThreesFrom, threes-none, threes-begin, threes-after, threes-next, threes-all, threes-found}
+use Rattle.resiliency.proofs.Lasts.{Trying, trying-start, trying-next, trying-found, trying-end, Masks, masks-nobody, masks-more, last-stands, last-breaks}
+use Rattle.resiliency.proofs.Lasts.{range-all, range-above, suits-nobody, suits-one, suits-two}
+use Rattle.resiliency.proofs.Walking.{ones-all, ones-found, Twos, twos-none, twos-next, twos-all, twos-found}
+use Rattle.resiliency.proofs.Walking.{Threes, ThreesFrom, threes-none, threes-begin, threes-after, threes-next, threes-all, threes-found}
 
 -- no group is found yet
 pub record Turn (j : Job) (may : May) (words plans weight : List ℕ) (r : Spared) : Type 0 where
@@ -29,11 +31,11 @@ module _ {j : Job} {may : May} {words plans weight : List ℕ} where
   start k w = record { known = k; weights = w; first = refl }
 
   -- the walk of a size ends without a group, or with one
-  ended : {r : Spared} (t : ℕ) → Turn j may words plans weight r → firstBreaking j may (suc t) ≡ nothing → Walked j may t words plans weight r
+  ended : {r : Spared} (t : ℕ) → Turn j may words plans weight r → firstBreaking j may (suc t) ≡ nothing → WalkedSets j may t words plans weight r
   ended t s e = record { known = s .known; weights = s .weights; answer = rw (s .first, e) refl }
 
   found-here : {away from c : ℕ} (t : ℕ) (xs : List ℕ) (r : Spared) → told r ≡ broken t xs
-      → Last j may away from words plans weight c → firstBreaking j may (suc t) ≡ found xs → Walked j may t words plans weight r
+      → Last j may away from words plans weight c → firstBreaking j may (suc t) ≡ found xs → WalkedSets j may t words plans weight r
   found-here t xs r d s e = record { known = s .known; weights = s .weights; answer = rw e d }
 
 -- no group is found yet, and those who may be away with the people of xs are gone through: all from one on but the rest
@@ -44,7 +46,7 @@ pub record Tries (j : Job) (may : May) (xs : List ℕ) (away from rest : ℕ) (w
 
 module _ {j : Job} {may : May} {xs : List ℕ} {away from rest : ℕ} {words plans weight : List ℕ} {r : Spared}
     (t : Tries j may xs away from rest words plans weight r) where
-  pub tries-next : {words′ plans′ weight′ : List ℕ} {left c x needs : ℕ} {b : Bool} → Removed rest c left → Added away c x
+  pub tries-next : {words′ plans′ weight′ : List ℕ} {left c x needs : ℕ} {b : Bool} → FirstAndRest rest c left → Added away c x
       → Stood j may (hasBit x) words′ plans′ weight′ b needs → b ≡ true → Tries j may xs away from (bitAnd left needs) words′ plans′ weight′ r
   tries-next d f s e = record { first = t .first; masks = t .masks; trying = trying-next (t .trying) d f s e }
 
@@ -60,16 +62,17 @@ module _ {j : Job} {may : May} {words plans weight : List ℕ} where
   one-start k w m n =
       record { first = refl; masks = masks-nobody; trying = trying-start k w (omega arith) (suits-nobody 18446744073709551615 plans) (range-all m) n }
 
-  pub one-end : {rest : ℕ} {r : Spared} → Tries j may [] 0 0 rest words plans weight r → rest ≡ 0 → Walked j may 0 words plans weight r
+  pub one-end : {rest : ℕ} {r : Spared} → Tries j may [] 0 0 rest words plans weight r → rest ≡ 0 → WalkedSets j may 0 words plans weight r
   one-end t e =
       let s = trying-end (t .trying) e in
       ended 0 (onward t e) (ones-all j may (j .people) (omega arith) (λ p l. last-stands [] masks-nobody s p (omega arith) l))
 
-  pub one-found : {words₀ plans₀ weight₀ : List ℕ} {rest a x needs : ℕ} {r : Spared} {b : Bool} → Tries j may [] 0 0 rest words₀ plans₀ weight₀ r → Lowest rest a → Added 0 a x
-      → Stood j may (hasBit x) words plans weight b needs → b ≡ false → Walked j may 0 words plans weight (One a)
+  pub one-found : {words₀ plans₀ weight₀ : List ℕ} {rest left a x needs : ℕ} {r : Spared} {b : Bool}
+      → Tries j may [] 0 0 rest words₀ plans₀ weight₀ r → FirstAndRest rest a left → Added 0 a x
+      → Stood j may (hasBit x) words plans weight b needs → b ≡ false → WalkedSets j may 0 words plans weight (One a)
   one-found {a = a} t l f h e =
       let s = trying-found (t .trying) l f h e in
-      let b : a < j .people = t .trying .within a (l .has) .1 in
+      let b : a < j .people = t .trying .within a (l .lowest .has) .1 in
       found-here 0 (a ∷ []) (One a) refl s
       (ones-found j may a b (λ p c. last-stands [] masks-nobody s p (omega arith) c) (last-breaks [] masks-nobody s b))
 
@@ -89,7 +92,7 @@ pub two-start : {j : Job} {may : May} {words plans weight : List ℕ} → Known 
 two-start {j} {may} k w = record { turn = start k w; passed = twos-none j may }
 
 module _ {j : Job} {may : May} {a : ℕ} {words plans weight : List ℕ} {r : Spared} (t : TwoTurn j may a words plans weight r) where
-  pub two-end : j .people ≤ a → Walked j may 1 words plans weight r
+  pub two-end : j .people ≤ a → WalkedSets j may 1 words plans weight r
   two-end l = ended 1 (t .turn) (twos-all j may a l (t .passed))
 
   pub two-begin : {away x y rest : ℕ} → a < j .people → j .people ≤ 64 → Added 0 a away → Mask (λ p. ltb p (j .people)) x → Mask (λ p. ltb p (a + 1)) y
@@ -106,7 +109,7 @@ module _ {j : Job} {may : May} {a : ℕ} {words plans weight : List ℕ} {r : Sp
       }
 
 module _ {j : Job} {may : May} {a away rest : ℕ} {words plans weight : List ℕ} {r : Spared} (t : TwoTries j may a away rest words plans weight r) where
-  pub two-more : {words′ plans′ weight′ : List ℕ} {left c x needs : ℕ} {b : Bool} → Removed rest c left → Added away c x
+  pub two-more : {words′ plans′ weight′ : List ℕ} {left c x needs : ℕ} {b : Bool} → FirstAndRest rest c left → Added away c x
       → Stood j may (hasBit x) words′ plans′ weight′ b needs → b ≡ true → TwoTries j may a away (bitAnd left needs) words′ plans′ weight′ r
   two-more d f s e = record { passed = t .passed; tries = tries-next (t .tries) d f s e }
 
@@ -118,11 +121,11 @@ module _ {j : Job} {may : May} {a away rest : ℕ} {words plans weight : List �
         passed = twos-next j may a (j .people) (omega arith) (t .passed) (λ q l m. last-stands (a ∷ []) (t .tries .masks) s q (omega arith) m);
       }
 
-  pub two-found : {words′ plans′ weight′ : List ℕ} {c x needs : ℕ} {b : Bool} → Lowest rest c → Added away c x
-      → Stood j may (hasBit x) words′ plans′ weight′ b needs → b ≡ false → Walked j may 1 words′ plans′ weight′ (Two a c)
+  pub two-found : {words′ plans′ weight′ : List ℕ} {left c x needs : ℕ} {b : Bool} → FirstAndRest rest c left → Added away c x
+      → Stood j may (hasBit x) words′ plans′ weight′ b needs → b ≡ false → WalkedSets j may 1 words′ plans′ weight′ (Two a c)
   two-found {c = c} l f h e =
       let s = trying-found (t .tries .trying) l f h e in
-      let w = t .tries .trying .within c (l .has) in
+      let w = t .tries .trying .within c (l .lowest .has) in
       found-here 1 (a ∷ c ∷ []) (Two a c) refl s
       (twos-found j may a c (omega (arith, w .0)) (w .1) (t .passed)
       (λ q m n. last-stands (a ∷ []) (t .tries .masks) s q (omega arith) n) (last-breaks (a ∷ []) (t .tries .masks) s (w .1)))
@@ -152,7 +155,7 @@ pub three-start : {j : Job} {may : May} {words plans weight : List ℕ} → Know
 three-start {j} {may} k w = record { turn = start k w; passed = threes-none j may }
 
 module _ {j : Job} {may : May} {a : ℕ} {words₀ plans₀ weight₀ : List ℕ} {r : Spared} (t : ThreeTurn j may a words₀ plans₀ weight₀ r) where
-  pub three-end : j .people ≤ a → Walked j may 2 words₀ plans₀ weight₀ r
+  pub three-end : j .people ≤ a → WalkedSets j may 2 words₀ plans₀ weight₀ r
   three-end l = ended 2 (t .turn) (threes-all j may a l (t .passed))
 
   pub three-begin : a < j .people → ThreeInner j may a (a + 1) words₀ plans₀ weight₀ r
@@ -180,7 +183,7 @@ module _ {j : Job} {may : May} {a b : ℕ} {words plans weight : List ℕ} {r : 
       }
 
 module _ {j : Job} {may : May} {a b away rest : ℕ} {words plans weight : List ℕ} {r : Spared} (t : ThreeTries j may a b away rest words plans weight r) where
-  pub three-more : {words′ plans′ weight′ : List ℕ} {left c x needs : ℕ} {g : Bool} → Removed rest c left → Added away c x
+  pub three-more : {words′ plans′ weight′ : List ℕ} {left c x needs : ℕ} {g : Bool} → FirstAndRest rest c left → Added away c x
       → Stood j may (hasBit x) words′ plans′ weight′ g needs → g ≡ true → ThreeTries j may a b away (bitAnd left needs) words′ plans′ weight′ r
   three-more d f s e = record { before = t .before; first = t .first; ordered = t .ordered; passed = t .passed; tries = tries-next (t .tries) d f s e }
 
@@ -194,11 +197,11 @@ module _ {j : Job} {may : May} {a b away rest : ℕ} {words plans weight : List 
         passed = threes-after j may a b (j .people) (omega arith) (t .passed) (λ q l m. last-stands (a ∷ b ∷ []) (t .tries .masks) s q (omega arith) m);
       }
 
-  pub three-found : {words′ plans′ weight′ : List ℕ} {c x needs : ℕ} {g : Bool} → Lowest rest c → Added away c x
-      → Stood j may (hasBit x) words′ plans′ weight′ g needs → g ≡ false → Walked j may 2 words′ plans′ weight′ (Three a b c)
+  pub three-found : {words′ plans′ weight′ : List ℕ} {left c x needs : ℕ} {g : Bool} → FirstAndRest rest c left → Added away c x
+      → Stood j may (hasBit x) words′ plans′ weight′ g needs → g ≡ false → WalkedSets j may 2 words′ plans′ weight′ (Three a b c)
   three-found {c = c} l f h e =
       let s = trying-found (t .tries .trying) l f h e in
-      let w = t .tries .trying .within c (l .has) in
+      let w = t .tries .trying .within c (l .lowest .has) in
       found-here 2 (a ∷ b ∷ c ∷ []) (Three a b c) refl s
       (threes-found j may a b c (t .ordered) (omega (arith, w .0)) (w .1) (t .before) (t .passed)
       (λ q m n. last-stands (a ∷ b ∷ []) (t .tries .masks) s q (omega arith) n) (last-breaks (a ∷ b ∷ []) (t .tries .masks) s (w .1)))

@@ -18,7 +18,7 @@ use Rattle.pattern.specs.Tables.{mayIn, planIn}
 use Rattle.backtrack.specs.Trial.{Trial}
 use Rattle.backtrack.specs.declared.Tried.the-variants.{Found}
 use Rattle.search.specs.Existence.{Existence}
-use Rattle.resiliency.specs.Varied.{Apart}
+use Rattle.resiliency.specs.Varied.{Fresh}
 
 -- a mask without `used` is a part of it
 pub fresh-part : (x used p : ℕ) → hasBit (bitXor (bitOr x used) used) p ≡ true → hasBit x p ≡ true
@@ -29,11 +29,11 @@ fresh-part x used p h = go (hasBit x p) (hasBit used p) (sym (xor-bit (bitOr x u
     go false true e = e
     go false false e = e
 
-pub apart-none : (may rest : List ℕ) → length rest ≡ 12 → Apart 0 may rest
+pub apart-none : (may rest : List ℕ) → length rest ≡ 12 → Fresh 0 may rest
 apart-none may rest e = record { sized = e; part = λ s p l. absurd (omega arith) }
 
-pub apart-more : (n : ℕ) (may rest : List ℕ) (x : ℕ) → Apart n may rest → n < 12 → ((p : ℕ) → hasBit x p ≡ true → mayIn may n p ≡ true)
-    → Apart (n + 1) may (set rest n x)
+pub apart-more : (n : ℕ) (may rest : List ℕ) (x : ℕ) → Fresh n may rest → n < 12 → ((p : ℕ) → hasBit x p ≡ true → mayIn may n p ≡ true)
+    → Fresh (n + 1) may (set rest n x)
 apart-more n may rest x w l h =
     record {
       sized = length-set rest n x ∙ w .sized;
@@ -45,7 +45,7 @@ apart-more n may rest x w l h =
     }
 
 -- a plan found among fewer people
-pub existence-apart : (ordered : Bool) (j : Job) (may rest plan plan′ : List ℕ) (n : ℕ) → j .steps ≤ n → length plan′ ≡ 12 → Apart n may rest → Trial ordered j rest plan′ Found
+pub existence-apart : (ordered : Bool) (j : Job) (may rest plan plan′ : List ℕ) (n : ℕ) → j .steps ≤ n → length plan′ ≡ 12 → Fresh n may rest → Trial ordered j rest plan′ Found
     → Existence j (mayIn may) plan plan′ true
 unfolding Trial
 existence-apart ordered j may rest plan plan′ n few e w t =

@@ -9,7 +9,8 @@ use Rattle.bits.proofs.Below.{below-suc}
 use Rattle.workflow.specs.Problem.{Job, May, Satisfiable}
 use Rattle.workflow.specs.First.{found, nothing, planOf, Earlier}
 use Rattle.workflow.proofs.First.{found-cases}
-use Rattle.resiliency.specs.Away.{without, member, Group, Breaks, FirstBreaking}
+use Rattle.bits.specs.Member.{member}
+use Rattle.resiliency.specs.Away.{without, Group, Breaks, FirstBreaking}
 use Rattle.resiliency.specs.Count.{firstBreaking}
 use Rattle.resiliency.proofs.Breaking.{first-breaking, firstBreaking-found, firstBreaking-nothing, firstBreaking-unique}
 

@@ -4,6 +4,7 @@ use mathlib.Core.Path.{_≡_, refl, sym, ap, subst, _∙_}
 use Prim.Native.Nat.{ℕ, zero, suc, _≤_, _<_}
 use native.Mathlib.Omega.{arith}
 use lib.ListN.{length, drop, getD}
+use Rattle.card.specs.Refusals.{planFault}
 use Rattle.sheet.specs.Answer.{sheetOf}
 use Rattle.sheet.specs.declared.Sheet.{Sheet}
 use Rattle.sheet.specs.declared.Reading.{Reading}
@@ -11,12 +12,12 @@ use Rattle.sheet.specs.declared.Reading.the-variants.{Readable, Refused}
 use Rattle.sheet.proofs.Refusals.{read-sheet-refusal}
 use Rattle.workflow.specs.Problem.{Job, May}
 use Rattle.answer.specs.Bytes.{longBytes, putAt, written}
-use Rattle.answer.specs.Number.{Numbered}
+use Rattle.answer.specs.Number.{refusalNumber, Returnable}
 use Rattle.answer.proofs.Put.{put-next}
 use Rattle.resiliency.specs.Count.{spare, IsSpare}
 use Rattle.resiliency.specs.Known.{told}
-use Rattle.resiliency.specs.Left.{Left, Named}
-use Rattle.resiliency.specs.Spare.{awayTags, answered}
+use Rattle.resiliency.specs.Left.{Left, MembersBelow}
+use Rattle.resiliency.specs.Spare.{awayTags, spareBytes}
 use Rattle.resiliency.specs.declared.Spared.{Spared}
 use Rattle.resiliency.specs.declared.Spared.the-variants.{Unsatisfiable, Capped, One, Two, Three}
 use Rattle.resiliency.proofs.Laws.{spare-is-spare}
@@ -51,44 +52,44 @@ written-count out bs n a b c l e = e ∙ ap (λ (x : List ℕ). x ++ written (a 
 
 -- what is left, for each answer
 module _ (tags out bs : List ℕ) (cap : ℕ) (r : Spared) where
-  pub left-none : r ≡ Unsatisfiable → Left (answered tags cap out (told r)) 3328 out
-  unfolding answered
-  left-none e = rw e (record { number = refl; bytes = refl })
+  pub left-none : (n : ℕ) → n ≡ refusalNumber planFault 0 → r ≡ Unsatisfiable → Left (spareBytes tags cap out (told r)) n out
+  unfolding spareBytes
+  left-none n d e = rw e (record { number = d; bytes = refl })
 
-  pub left-capped : cap ≤ 3 → r ≡ Capped → bs ≡ written (cap ∷ 0 ∷ 0 ∷ 0 ∷ []) ++ drop 16 out → Left (answered tags cap out (told r)) 0 bs
-  unfolding answered awayTags
+  pub left-capped : cap ≤ 3 → r ≡ Capped → bs ≡ written (cap ∷ 0 ∷ 0 ∷ 0 ∷ []) ++ drop 16 out → Left (spareBytes tags cap out (told r)) 0 bs
+  unfolding spareBytes awayTags
   left-capped l e h = rw e (record { number = refl; bytes = written-count out bs cap 0 0 0 l h })
 
-  pub left-one : (a : ℕ) → r ≡ One a → bs ≡ written (0 ∷ getD tags a 0 ∷ 0 ∷ 0 ∷ []) ++ drop 16 out → Left (answered tags cap out (told r)) 0 bs
-  unfolding answered awayTags
+  pub left-one : (a : ℕ) → r ≡ One a → bs ≡ written (0 ∷ getD tags a 0 ∷ 0 ∷ 0 ∷ []) ++ drop 16 out → Left (spareBytes tags cap out (told r)) 0 bs
+  unfolding spareBytes awayTags
   left-one a e h = rw e (record { number = refl; bytes = written-count out bs 0 (getD tags a 0) 0 0 (omega arith) h })
 
   pub left-two : (a b : ℕ) → r ≡ Two a b → bs ≡ written (1 ∷ getD tags a 0 ∷ getD tags b 0 ∷ 0 ∷ []) ++ drop 16 out
-      → Left (answered tags cap out (told r)) 0 bs
-  unfolding answered awayTags
+      → Left (spareBytes tags cap out (told r)) 0 bs
+  unfolding spareBytes awayTags
   left-two a b e h = rw e (record { number = refl; bytes = written-count out bs 1 (getD tags a 0) (getD tags b 0) 0 (omega arith) h })
 
   pub left-three : (a b c : ℕ) → r ≡ Three a b c → bs ≡ written (2 ∷ getD tags a 0 ∷ getD tags b 0 ∷ getD tags c 0 ∷ []) ++ drop 16 out
-      → Left (answered tags cap out (told r)) 0 bs
-  unfolding answered awayTags
+      → Left (spareBytes tags cap out (told r)) 0 bs
+  unfolding spareBytes awayTags
   left-three a b c e h =
       rw e (record { number = refl; bytes = written-count out bs 2 (getD tags a 0) (getD tags b 0) (getD tags c 0) (omega arith) h })
 
 -- the members of each group
-pub named-one : {r : Spared} {a : ℕ} → r ≡ One a → Named 64 r → a < 64
-named-one e n = subst (Named 64) e n
+pub named-one : {r : Spared} {a : ℕ} → r ≡ One a → MembersBelow 64 r → a < 64
+named-one e n = subst (MembersBelow 64) e n
 
-pub named-two : {r : Spared} {a b : ℕ} → r ≡ Two a b → Named 64 r → (a < 64) × (b < 64)
-named-two e n = subst (Named 64) e n
+pub named-two : {r : Spared} {a b : ℕ} → r ≡ Two a b → MembersBelow 64 r → (a < 64) × (b < 64)
+named-two e n = subst (MembersBelow 64) e n
 
-pub named-three : {r : Spared} {a b c : ℕ} → r ≡ Three a b c → Named 64 r → (a < 64) × (b < 64) × (c < 64)
-named-three e n = subst (Named 64) e n
+pub named-three : {r : Spared} {a b c : ℕ} → r ≡ Three a b c → MembersBelow 64 r → (a < 64) × (b < 64) × (c < 64)
+named-three e n = subst (MembersBelow 64) e n
 
 -- the members of the spare count's group are people
-pub named-spare : (j : Job) (may : May) (cap : ℕ) (r : Spared) → told r ≡ spare j may cap → j .people ≤ 64 → Named 64 r
+pub named-spare : (j : Job) (may : May) (cap : ℕ) (r : Spared) → told r ≡ spare j may cap → j .people ≤ 64 → MembersBelow 64 r
 named-spare j may cap r e l = members r (subst (IsSpare j may cap) (sym e) (spare-is-spare j may cap))
   where
-    members : (r : Spared) → IsSpare j may cap (told r) → Named 64 r
+    members : (r : Spared) → IsSpare j may cap (told r) → MembersBelow 64 r
     members Unsatisfiable h = tt
     members Capped h = tt
     members (One a) h = omega (arith, h .2 .group .within 0 (omega arith))
@@ -98,11 +99,3 @@ named-spare j may cap r e l = members r (subst (IsSpare j may cap) (sym e) (spar
       omega (arith, h .2 .group .within 1 (omega arith)),
       omega (arith, h .2 .group .within 2 (omega arith)),
     )
-
--- a reader's refusal has a number
-pub read-numbered : (s : List ℕ) (a : Sheet) → a ≡ sheetOf s → Numbered (a .reading)
-read-numbered s a e = rw e (go (sheetOf s .reading) refl)
-  where
-    go : (r : Reading) → sheetOf s .reading ≡ r → Numbered r
-    go (Readable people steps rules) d = tt
-    go (Refused f k) d = let w = read-sheet-refusal s f k d in (omega (arith, w .to), omega (arith, w .card))

@@ -1,11 +1,12 @@
 -- Who is away: sets of people, the groups of one size in crew order, and what their absence leaves. Assumes nothing.
-use mathlib.Core.Bool.{Bool, true, false, not, _&&_, _||_}
-use mathlib.Core.List.{List, [], _∷_}
+use mathlib.Core.Bool.{Bool, true, false, not, _&&_}
+use mathlib.Core.List.{List}
 use mathlib.Core.Path.{_≡_}
 use Prim.Native.Nat.{ℕ, suc, _≤_, _<_, _-_}
-use lib.Dec.{eqb, ltb}
+use lib.Dec.{ltb}
 use lib.ListN.{length, getD}
 use Rattle.bits.specs.Below.{all, count}
+use Rattle.bits.specs.Member.{member}
 use Rattle.workflow.specs.Problem.{Job, May, Satisfiable}
 use Rattle.workflow.specs.First.{Found, found, nothing, planOf, firstPlan, Earlier}
 
@@ -16,11 +17,6 @@ without may away s p = may s p && not (away p)
 -- "for every set of at most t people away a valid plan exists among the others": any set, not only those that the walk comes to
 abbrev pub Resilient : Job → May → ℕ → Type 0
 Resilient j may t = (away : ℕ → Bool) → count (j .people) away ≤ t → Satisfiable j (without may away)
-
--- p is one of a list
-unfoldable pub member : List ℕ → ℕ → Bool
-member [] p = false
-member (x ∷ xs) p = eqb p x || member xs p
 
 -- "The members of an away set stand in crew order": a set of k of the people, as a list
 pub record Group (people k : ℕ) (xs : List ℕ) : Type 0 where

@@ -16,15 +16,15 @@ pub data Spare : Type 0 where
 unfoldable pub firstBreaking : Job → May → ℕ → Found
 firstBreaking j may k = tryAll (λ xs. let b : Bool = breaking j may xs in increasing xs && b) (j .people) k []
 
--- the group found ends the walk, with t the count
+-- the group found ends the countFrom, with t the count
 abbrev pub endsAt : ℕ → Found → Spare → Spare
 endsAt t (found xs) rest = broken t xs
 endsAt t nothing rest = rest
 
 -- "Sizes go up from 1 to c": the sizes above t, as many as are left
-unfoldable pub walk : Job → May → ℕ → ℕ → Spare
-walk j may zero t = capped
-walk j may (suc left) t = let rest : Spare = walk j may left (suc t) in endsAt t (firstBreaking j may (suc t)) rest
+unfoldable pub countFrom : Job → May → ℕ → ℕ → Spare
+countFrom j may zero t = capped
+countFrom j may (suc left) t = let rest : Spare = countFrom j may left (suc t) in endsAt t (firstBreaking j may (suc t)) rest
 
 -- "The empty set counts, so a job without a valid plan has no such t"
 abbrev pub ifPlanned : Found → Spare → Spare
@@ -33,7 +33,7 @@ ifPlanned nothing rest = unsatisfiable
 
 -- the spare count with a cap
 unfoldable pub spare : Job → May → ℕ → Spare
-spare j may cap = let rest : Spare = walk j may cap 0 in ifPlanned (firstPlan j may) rest
+spare j may cap = let rest : Spare = countFrom j may cap 0 in ifPlanned (firstPlan j may) rest
 
 -- the number of the count, where there is one
 abbrev pub countOf : ℕ → Spare → ℕ

@@ -50,7 +50,7 @@ pub record Known (j : Job) (may : May) (known plans : List ℕ) : Type 0 where
   pub spares : (i p : ℕ) → i < 64 → p < 64 → hasBit (getD known p 0) i ≡ true → hasBit (getD plans i 0) p ≡ false
 
 -- a plan whose people are in the mask is kept in front of the others
-pub record Kept (steps : ℕ) (plan : List ℕ) (mask : ℕ) (known plans known′ plans′ : List ℕ) : Type 0 where
+pub record KeptPlan (steps : ℕ) (plan : List ℕ) (mask : ℕ) (known plans known′ plans′ : List ℕ) : Type 0 where
   pub needs : Uses steps plan mask
   pub noted : Noted mask 64 known known′
   pub moved : Moved mask 64 plans plans′
@@ -98,7 +98,7 @@ told (Two a b) = broken 1 (a ∷ b ∷ [])
 told (Three a b c) = broken 2 (a ∷ b ∷ c ∷ [])
 
 -- the groups of t + 1 people are gone through
-pub record Walked (j : Job) (may : May) (t : ℕ) (words plans weight : List ℕ) (r : Spared) : Type 0 where
+pub record WalkedSets (j : Job) (may : May) (t : ℕ) (words plans weight : List ℕ) (r : Spared) : Type 0 where
   pub known : Known j may words plans
   pub weights : length weight ≡ 12
   pub answer : told r ≡ endsAt t (firstBreaking j may (suc t)) capped

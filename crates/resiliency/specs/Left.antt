@@ -12,9 +12,9 @@ pub record Left (o : Outcome) (n : ℕ) (bs : List ℕ) : Type 0 where
   pub bytes : bs ≡ o .bytes
 
 -- the members of a group are below n
-abbrev pub Named : ℕ → Spared → Type 0
-Named n Unsatisfiable = Unit {0}
-Named n Capped = Unit {0}
-Named n (One a) = a < n
-Named n (Two a b) = (a < n) × (b < n)
-Named n (Three a b c) = (a < n) × (b < n) × (c < n)
+abbrev pub MembersBelow : ℕ → Spared → Type 0
+MembersBelow n Unsatisfiable = Unit {0}
+MembersBelow n Capped = Unit {0}
+MembersBelow n (One a) = a < n
+MembersBelow n (Two a b) = (a < n) × (b < n)
+MembersBelow n (Three a b c) = (a < n) × (b < n) × (c < n)

@@ -6,10 +6,10 @@ use lib.Dec.{ltb}
 use lib.ListN.{length, drop, getD}
 use Rattle.sheet.specs.Answer.{jobOf}
 use Rattle.sheet.specs.Read.{Read, job, fault, readSheet}
-use Rattle.sheet.specs.declared.Job as sheet
+use Rattle.sheet.specs.declared.SheetJob as sheet
 use Rattle.instance.specs.Instance.{instanceOf, mayOf}
 use Rattle.answer.specs.Bytes.{Outcome, refused, written}
-use Rattle.answer.specs.Refusals.{shortFault, capFault, planFault}
+use Rattle.card.specs.Refusals.{shortFault, capFault, planFault}
 use Rattle.resiliency.specs.Count.{Spare, unsatisfiable, capped, broken, spare}
 
 -- "With cap c, 0 to 3"
@@ -27,20 +27,20 @@ awayTags tags (suc n) [] = 0 ∷ awayTags tags n []
 awayTags tags (suc n) (p ∷ away) = getD tags p 0 ∷ awayTags tags n away
 
 -- "16 bytes: byte 0 the count, bytes 1-3 zero, then three tags"; "Later bytes of the buffer keep their values."
-abbrev pub counted : List ℕ → ℕ → List ℕ → List ℕ → Outcome
-counted tags count away buffer =
+abbrev pub countBytes : List ℕ → ℕ → List ℕ → List ℕ → Outcome
+countBytes tags count away buffer =
     record { number = 0; bytes = (count ∷ 0 ∷ 0 ∷ 0 ∷ []) ++ written (awayTags tags 3 away) ++ drop spareSize buffer }
 
 -- of an answer: "all three tags are zero when t equals c"
-unfoldable pub answered : List ℕ → ℕ → List ℕ → Spare → Outcome
-answered tags cap buffer unsatisfiable = refused planFault 0 buffer
-answered tags cap buffer capped = counted tags cap [] buffer
-answered tags cap buffer (broken t away) = counted tags t away buffer
+unfoldable pub spareBytes : List ℕ → ℕ → List ℕ → Spare → Outcome
+spareBytes tags cap buffer unsatisfiable = refused planFault 0 buffer
+spareBytes tags cap buffer capped = countBytes tags cap [] buffer
+spareBytes tags cap buffer (broken t away) = countBytes tags t away buffer
 
 -- of a job with these counts: "1: answer buffer too short (.. 16 for spare)", then the spare count
-unfoldable pub spareOf : ℕ → ℕ → ℕ → ℕ → sheet.Job → List ℕ → Outcome
+unfoldable pub spareOf : ℕ → ℕ → ℕ → ℕ → sheet.SheetJob → List ℕ → Outcome
 spareOf cap people steps rules j buffer =
-    let count : Outcome = answered (j .«person_tag») cap buffer (spare (instanceOf people steps rules j) (mayOf j) cap) in
+    let count : Outcome = spareBytes (j .«person_tag») cap buffer (spare (instanceOf people steps rules j) (mayOf j) cap) in
     cond (ltb (length buffer) spareSize) (refused shortFault 0 buffer) count
 
 -- of what was read: "A refusal of the reader is passed up with its card."

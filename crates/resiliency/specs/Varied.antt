@@ -7,6 +7,6 @@ use lib.ListN.{length}
 use Rattle.pattern.specs.Tables.{mayIn}
 
 -- the first n masks have nobody who is not permitted
-pub record Apart (n : ℕ) (may rest : List ℕ) : Type 0 where
+pub record Fresh (n : ℕ) (may rest : List ℕ) : Type 0 where
   pub sized : length rest ≡ 12
   pub part : (s p : ℕ) → s < n → mayIn rest s p ≡ true → mayIn may s p ≡ true

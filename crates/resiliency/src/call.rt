@@ -1,11 +1,12 @@
 // The spare call: a sheet, a buffer and a cap become a number and 16 bytes.
 use super::Spared;
 use super::job::job_count;
-use answer::CAP_REFUSED;
-use answer::NO_PLAN;
-use answer::SHORT;
 use answer::bytes::put_long;
 use answer::number;
+use answer::returned;
+use card::refusal::CAP_FAULT;
+use card::refusal::PLAN_FAULT;
+use card::refusal::SHORT_FAULT;
 use sheet::Reading;
 use sheet::read_sheet;
 ghost use mathlib.Core.List.{[], _∷_, _++_};
@@ -14,8 +15,8 @@ ghost use Prim.Native.Nat.{_≤_};
 ghost use lib.ListN.{length, drop};
 ghost use Rattle.answer.specs.Bytes.{written};
 ghost use Rattle.resiliency.specs.Known.{told};
-ghost use Rattle.resiliency.specs.Spare.{answered, spareAnswer};
-ghost use Rattle.resiliency.specs.Left.{Left, Named};
+ghost use Rattle.resiliency.specs.Spare.{spareBytes, spareAnswer};
+ghost use Rattle.resiliency.specs.Left.{Left, MembersBelow};
 
 // The greatest cap, and the bytes of a spare count.
 const MOST_AWAY: u32 = 3;
@@ -35,12 +36,12 @@ fn put_four(out: &mut [u8], count: u32, a: u32, b: u32, c: u32)
 
 // Writes the count and the tags of the group, and gives the number.
 fn write_count(tag: &[u32; 64], cap: u32, count: Spared, out: &mut [u8]) -> u32
-    requires { ⌜ (length (now tag) ≡ 64) × (cap ≤ 3) × (16 ≤ length (now out)) × Named 64 count ⌝ }
-    ensures { λ r. ⌜ Left (answered (now (tag .entry)) cap (now (out .entry)) (told count)) r (now (out .exit)) ⌝ }
+    requires { ⌜ (length (now tag) ≡ 64) × (cap ≤ 3) × (16 ≤ length (now out)) × MembersBelow 64 count ⌝ }
+    ensures { λ r. ⌜ Left (spareBytes (now (tag .entry)) cap (now (out .entry)) (told count)) r (now (out .exit)) ⌝ }
 {
     match count {
         Spared::Unsatisfiable => {
-            return NO_PLAN;
+            return returned(PLAN_FAULT, 0);
         }
         Spared::Capped => {
             put_four(out, cap, 0, 0, 0);
@@ -66,7 +67,7 @@ pub fn spare(sheet: &[u8], answer: &mut [u8], cap: u32) -> u32
     ensures { λ r. ⌜ Left (spareAnswer cap (now (sheet .entry)) (now (answer .entry))) r (now (answer .exit)) ⌝ }
 {
     if cap > MOST_AWAY {
-        return CAP_REFUSED;
+        return returned(CAP_FAULT, 0);
     }
     let read = read_sheet(sheet);
     let reading = read.reading;
@@ -79,7 +80,7 @@ pub fn spare(sheet: &[u8], answer: &mut [u8], cap: u32) -> u32
         return number(reading);
     };
     if answer.len() < SPARE_BYTES {
-        return SHORT;
+        return returned(SHORT_FAULT, 0);
     }
     let job = read.job;
     let tag = job.person_tag;

@@ -1,7 +1,8 @@
 // The spare count of a job as the card reader gives it.
 use super::Spared;
 use super::count::spare_count;
-use sheet::Job;
+use sheet::SheetJob;
+use tables::may_masks;
 use tables::pose;
 ghost use mathlib.Core.Path.{_≡_};
 ghost use Prim.Native.Nat.{_≤_};
@@ -10,17 +11,10 @@ ghost use Rattle.instance.specs.Instance.{instanceOf, mayOf};
 ghost use Rattle.resiliency.specs.Count.{spare};
 ghost use Rattle.resiliency.specs.Known.{told};
 
-pub fn job_count(job: Job, people: usize, steps: usize, rules: usize, cap: usize) -> Spared
+pub fn job_count(job: SheetJob, people: usize, steps: usize, rules: usize, cap: usize) -> Spared
     requires { ⌜ ReadableJob people steps rules job × (cap ≤ 3) ⌝ }
     ensures { λ r. ⌜ told r ≡ spare (instanceOf people steps rules job) (mayOf job) cap ⌝ }
 {
-    let posed = pose(job, people, steps, rules);
-    let may = posed.may;
-    let tables = posed.tables;
-    let size = tables.size;
-    let class = tables.class;
-    let crowd = tables.crowd;
-    let rule = tables.rule;
-    let of = tables.of;
-    spare_count(size, &class, &crowd, &rule, &of, &may, cap)
+    let may = may_masks(&job.permitted, people);
+    spare_count(pose(job, people, steps, rules), &may, cap)
 }

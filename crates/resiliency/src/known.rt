@@ -2,41 +2,44 @@
 // first: each has its people as a mask, and each person's word says which of them do without that person.
 use super::varied::varied;
 use bits::set::has;
-use bits::set::lowest;
+use bits::set::take;
 use bits::set::with;
-use bits::set::without;
-use pattern::Size;
+use bits::sizes::Domains;
+use bits::sizes::MOST_STEPS;
+use bits::sizes::Plan;
+use bits::sizes::Weights;
+use levels::Tables;
 ghost use mathlib.Core.Path.{_≡_};
 ghost use Prim.Native.Nat.{ℕ, _≤_, _<_};
 ghost use lib.ListN.{length, getD};
 ghost use Rattle.bits.specs.Word.{hasBit};
-ghost use Rattle.levels.specs.Tabled.{Tabled};
-ghost use Rattle.pattern.specs.Tables.{mayIn, jobIn};
-ghost use Rattle.resiliency.specs.Known.{Remaining, Uses, Noted, Moved, Known, Needed, Kept, Stood};
+ghost use Rattle.levels.specs.Tabled.{tabledJob, Ready};
+ghost use Rattle.pattern.specs.Tables.{mayIn};
+ghost use Rattle.resiliency.specs.Known.{Remaining, Uses, Noted, Moved, Known, Needed, KeptPlan, Stood};
 
 // All plans but the one kept longest.
 const ALL_BUT_LAST: u64 = 0x7fff_ffff_ffff_ffff;
 
 // Whether a plan was found, and the people it needs: anyone else may be away as well.
-pub struct Trial {
+pub struct Search {
     pub found: bool,
     pub needs: u64,
 }
 
 // The people permitted who are not away, for each step.
-fn remaining(may: &[u64; 12], away: u64) -> [u64; 12]
+fn remaining(may: &Domains, away: u64) -> [u64; MOST_STEPS]
     requires { ⌜ length (now may) ≡ 12 ⌝ }
     ensures { λ r. ⌜ Remaining (now (may .entry)) away 12 r ⌝ }
 {
-    let mut rest = [0u64; 12];
-    for s in 0..12usize {
+    let mut rest = [0u64; MOST_STEPS];
+    for s in 0..MOST_STEPS {
         rest[s] = (may[s] | away) ^ away;
     }
     rest
 }
 
 // The people of a plan.
-fn people_of(steps: usize, plan: &[u8; 12]) -> u64
+fn people_of(steps: usize, plan: &Plan) -> u64
     requires { ⌜ (steps ≤ 12) × (length (now plan) ≡ 12) × ((s : ℕ) → s < steps → getD (now plan) s 0 < 64) ⌝ }
     ensures { λ r. ⌜ Uses steps (now (plan .entry)) r ⌝ }
 {
@@ -77,10 +80,10 @@ fn put_first(mask: u64, plans: &mut [u64; 64])
 }
 
 // Keeps a plan, in front of the others, and gives its people.
-pub fn keep_plan(steps: usize, plan: &[u8; 12], known: &mut [u64; 64], plans: &mut [u64; 64]) -> u64
+pub fn keep_plan(steps: usize, plan: &Plan, known: &mut [u64; 64], plans: &mut [u64; 64]) -> u64
     requires { ⌜ (steps ≤ 12) × (length (now plan) ≡ 12) × ((s : ℕ) → s < steps → getD (now plan) s 0 < 64)
         × (length (now known) ≡ 64) × (length (now plans) ≡ 64) ⌝ }
-    ensures { λ r. ⌜ Kept steps (now (plan .entry)) r (now (known .entry)) (now (plans .entry)) (now (known .exit)) (now (plans .exit)) ⌝ }
+    ensures { λ r. ⌜ KeptPlan steps (now (plan .entry)) r (now (known .entry)) (now (plans .entry)) (now (known .exit)) (now (plans .exit)) ⌝ }
 {
     let mask = people_of(steps, plan);
     note(mask, known);
@@ -99,8 +102,9 @@ pub fn needed(word: u64, plans: &[u64; 64], among: u64) -> u64
         if left == 0 {
             return rest;
         }
-        let i = lowest(left);
-        left = without(left, i);
+        let next = take(left);
+        left = next.rest;
+        let i = next.first;
         rest = rest & plans[i];
     }
     rest
@@ -108,42 +112,27 @@ pub fn needed(word: u64, plans: &[u64; 64], among: u64) -> u64
 
 // Searches for a plan without the people away, and keeps it.
 pub fn searched(
-    size: Size,
-    class: &[u8; 192],
-    crowd: &[u64; 192],
-    rule: &[u32; 64],
-    of: &[u64; 12],
-    may: &[u64; 12],
+    tables: Tables,
+    may: &Domains,
     away: u64,
-    weight: &mut [u32; 12],
+    weight: &mut Weights,
     known: &mut [u64; 64],
     plans: &mut [u64; 64],
-) -> Trial
-    requires { ⌜ Tabled size (now class) (now crowd) (now rule) (now of) × (length (now may) ≡ 12) × (length (now weight) ≡ 12)
-        × Known (jobIn size (now class) (now rule)) (mayIn (now may)) (now known) (now plans) ⌝ }
-    ensures { λ r. ⌜ Stood (jobIn size (now (class .entry)) (now (rule .entry)))
-        (mayIn (now (may .entry))) (hasBit away) (now (known .exit)) (now (plans .exit)) (now (weight .exit)) (r .found) (r .needs) ⌝ }
+) -> Search
+    requires { ⌜ Ready tables × (length (now may) ≡ 12) × (length (now weight) ≡ 12)
+        × Known (tabledJob tables) (mayIn (now may)) (now known) (now plans) ⌝ }
+    ensures { λ r. ⌜ Stood (tabledJob tables) (mayIn (now (may .entry))) (hasBit away) (now (known .exit)) (now (plans .exit)) (now (weight .exit)) (r .found) (r .needs) ⌝ }
 {
     let rest = remaining(may, away);
-    let mut plan = [0u8; 12];
-    if !varied(
-        size,
-        class,
-        crowd,
-        rule,
-        of,
-        &rest,
-        plans,
-        weight,
-        &mut plan,
-    ) {
-        return Trial {
+    let mut plan = [0u8; MOST_STEPS];
+    if !varied(tables, &rest, plans, weight, &mut plan) {
+        return Search {
             found: false,
             needs: 0,
         };
     }
-    let needs = keep_plan(size.steps, &plan, known, plans);
-    Trial {
+    let needs = keep_plan(tables.size.steps, &plan, known, plans);
+    Search {
         found: true,
         needs: needs,
     }

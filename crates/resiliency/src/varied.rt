@@ -3,15 +3,19 @@
 use backtrack::Tried;
 use backtrack::attempt;
 use bits::set::ALL;
-use pattern::Size;
+use bits::sizes::Domains;
+use bits::sizes::MOST_STEPS;
+use bits::sizes::Plan;
+use bits::sizes::Weights;
+use levels::Tables;
 use search::exists::exists;
 ghost use mathlib.Core.Path.{_≡_};
 ghost use Prim.Native.Nat.{_≤_, _<_};
 ghost use lib.ListN.{length};
-ghost use Rattle.levels.specs.Tabled.{Tabled};
-ghost use Rattle.pattern.specs.Tables.{mayIn, jobIn};
+ghost use Rattle.levels.specs.Tabled.{tabledJob, Ready};
+ghost use Rattle.pattern.specs.Tables.{mayIn};
 ghost use Rattle.search.specs.Existence.{Existence};
-ghost use Rattle.resiliency.specs.Varied.{Apart};
+ghost use Rattle.resiliency.specs.Varied.{Fresh};
 
 // How many rules the search for other people may look at.
 const EFFORT: u32 = 100;
@@ -28,18 +32,18 @@ fn people_at(i: usize, plans: &[u64; 64]) -> u64
 }
 
 // The people permitted who are not of `used`, for each step; all of them where nobody else is.
-fn apart(may: &[u64; 12], used: u64) -> [u64; 12]
+fn fresh(may: &Domains, used: u64) -> [u64; MOST_STEPS]
     requires { ⌜ length (now may) ≡ 12 ⌝ }
-    ensures { λ r. ⌜ Apart 12 (now (may .entry)) r ⌝ }
+    ensures { λ r. ⌜ Fresh 12 (now (may .entry)) r ⌝ }
 {
-    let mut rest = [0u64; 12];
-    for s in 0..12usize {
-        let fresh = (may[s] | used) ^ used;
-        if fresh == 0 {
+    let mut rest = [0u64; MOST_STEPS];
+    for s in 0..MOST_STEPS {
+        let new = (may[s] | used) ^ used;
+        if new == 0 {
             rest[s] = may[s];
             continue;
         }
-        rest[s] = fresh;
+        rest[s] = new;
     }
     rest
 }
@@ -47,40 +51,33 @@ fn apart(may: &[u64; 12], used: u64) -> [u64; 12]
 // Whether there is a valid plan; `plan` is then one, of nobody of the three newest plans where that is
 // found at once.
 pub fn varied(
-    size: Size,
-    class: &[u8; 192],
-    crowd: &[u64; 192],
-    rule: &[u32; 64],
-    of: &[u64; 12],
-    may: &[u64; 12],
+    tables: Tables,
+    may: &Domains,
     plans: &[u64; 64],
-    weight: &mut [u32; 12],
-    plan: &mut [u8; 12],
+    weight: &mut Weights,
+    plan: &mut Plan,
 ) -> bool
-    requires { ⌜ Tabled size (now class) (now crowd) (now rule) (now of)
-        × (length (now may) ≡ 12) × (length (now plans) ≡ 64) × (length (now weight) ≡ 12) × (length (now plan) ≡ 12) ⌝ }
-    ensures { λ r. ⌜ Existence (jobIn size (now (class .entry)) (now (rule .entry)))
-        (mayIn (now (may .entry))) (now (plan .entry)) (now (plan .exit)) r × (length (now (weight .exit)) ≡ 12) ⌝ }
+    requires { ⌜ Ready tables × (length (now may) ≡ 12) × (length (now plans) ≡ 64) × (length (now weight) ≡ 12) × (length (now plan) ≡ 12) ⌝ }
+    ensures { λ r. ⌜ Existence (tabledJob tables) (mayIn (now (may .entry))) (now (plan .entry)) (now (plan .exit)) r × (length (now (weight .exit)) ≡ 12) ⌝ }
 {
     let used = people_at(0, plans) | people_at(1, plans) | people_at(2, plans);
     if used == 0 {
-        return exists(size, class, crowd, rule, of, may, weight, plan);
+        return exists(tables, may, weight, plan);
     }
-    let others = apart(may, used);
-    let mut any = [0u8; 12];
+    let others = fresh(may, used);
+    let mut any = [0u8; MOST_STEPS];
     let tried = attempt(
-        size,
-        class,
-        crowd,
-        rule,
-        of,
+        tables.size,
+        &tables.crowd,
+        &tables.rule,
+        &tables.of,
         &others,
         false,
         EFFORT,
         &mut any,
     );
     let Tried::Found = tried else {
-        return exists(size, class, crowd, rule, of, may, weight, plan);
+        return exists(tables, may, weight, plan);
     };
     *plan = any;
     true

@@ -26,15 +26,19 @@ use Rattle.bits.specs.Set.{Mask}
 use Rattle.bits.proofs.Masks.{mask-has, mask-in}
 use Rattle.bits.proofs.Says.{says-true, says-false}
 use Rattle.pattern.proofs.Given.{searchable}
-use Rattle.eligible.specs.Rules.{Among}
+use Rattle.eligible.specs.Rules.{ForSteps, Among}
 use Rattle.levels.specs.Tabled.{Naming}
-use Rattle.realize.specs.Parts.{Sized, Indexed}
+use Rattle.realize.specs.Parts.{ArraysSized, Offers}
 use Rattle.pattern.specs.Given.{Given}
-use Rattle.search.specs.Existence.{Named, AllStaffed, Spread, Existence}
-use Rattle.search.specs.State.{Patterned, Reached, Ended, Outcome}
+use Rattle.search.specs.Existence.{Named, AllStaffed, GivesFirst, Existence}
+use Rattle.search.specs.State.{Patterned, Reached, Completed, FindOutcome}
 use Rattle.realize.specs.Filling.{Realizing}
 use Rattle.search.proofs.Node.{sized, known}
 use Rattle.search.proofs.Staff.{foremost-least}
+
+-- the mask of all numbers below n
+pub all-below : {n all : ℕ} → Mask (λ i. ltb i n) all → (i : ℕ) → hasBit all i ≡ true → i < n
+all-below {n} mask i h = ltb-true i n (mask-in mask i h)
 
 -- no labels yet
 abbrev pub blank : List ℕ
@@ -75,7 +79,7 @@ exact j placed label named i l p =
     record { least = omega (arith, p .least); most = p .most }
 
 -- the search that began with nothing placed has placed the steps named
-pub ended-reached : {j : Job} {may : May} {rest : ℕ} {label : List ℕ} → Ended j may 0 rest label → Reached j may rest 0 label
+pub ended-reached : {j : Job} {may : May} {rest : ℕ} {label : List ℕ} → Completed j may 0 rest label → Reached j may rest 0 label
 ended-reached {j} {may} {rest} {label} w =
     let a : w .final ≤ rest = part-le (w .final) rest (λ s h. sym (each s) ∙ h) in
     let b : rest ≤ w .final = part-le rest (w .final) (λ s h. each s ∙ h) in
@@ -97,11 +101,11 @@ reached-valid {j} {may} {placed} {label} ok w π r others =
     named : AllNamed j (hasBit placed)
     named i s a l h = w .named i s a l h (empty-lacks s)
 
-module _ {size : Size} {class rule : List ℕ}
-    (given : Given size class rule) (may : List ℕ) where
+module _ {size : Size} {crowd rule : List ℕ}
+    (given : Given size crowd rule) (may : List ℕ) where
   -- a step that nobody may do
   pub existence-unstaffed : (plan : List ℕ) → length plan ≡ 12 → (r : Bool) → Says r (AllStaffed (size .steps) (size .people) may) → not r ≡ true
-      → Existence (jobIn size class rule) (mayIn may) plan plan false
+      → Existence (jobIn size crowd rule) (mayIn may) plan plan false
   existence-unstaffed plan e r says f =
       record {
         sized = e;
@@ -112,35 +116,31 @@ module _ {size : Size} {class rule : List ℕ}
 
   -- a rule that cannot be met
   pub existence-ruled-out : (plan label : List ℕ) → length plan ≡ 12 → (all : ℕ) → Mask (λ i. ltb i (size .rules)) all → (r : Bool)
-      → Says r (Among (size .steps) all 0 rule 0 label) → not r ≡ true → Existence (jobIn size class rule) (mayIn may) plan plan false
+      → ForSteps all rule (λ steps. Says r (Among steps all rule 0 label)) → not r ≡ true → Existence (jobIn size crowd rule) (mayIn may) plan plan false
   existence-ruled-out plan label e all mask r says f =
-      let n = says-false r (Among (size .steps) all 0 rule 0 label) says (not-true r f) in
-      let j = jobIn size class rule in
+      let n = says-false r (Among (size .steps) all rule 0 label) (says (size .steps) (λ i h. given .ruled .scopes i (all-below mask i h))) (not-true r f) in
+      let j = jobIn size crowd rule in
       record {
         sized = e;
         won = λ t. true-false refl (sym t);
-        lost = λ t w. n (record {
-          part = λ i h. true-false h (empty-lacks i);
-          possible = λ i h k.
-              exists-possible j (mayIn may) (hasBit 0) (labelIn label) (searchable given) (nothing-exists j (mayIn may) label w) i
-              (ltb-true i (size .rules) (mask-in mask i h));
-        });
+        lost = λ t w. n (λ i h.
+            exists-possible j (mayIn may) (hasBit 0) (labelIn label) (searchable given) (nothing-exists j (mayIn may) label w) i (all-below mask i h));
         kept = λ t. refl;
       }
 
-  pub start-patterned : (label : List ℕ) → length label ≡ 36 → Patterned (jobIn size class rule) 0 label
-  start-patterned label e = nothing-patterned (jobIn size class rule) (mayIn may) label e
+  pub start-patterned : (label : List ℕ) → length label ≡ 36 → Patterned (jobIn size crowd rule) 0 label
+  start-patterned label e = nothing-patterned (jobIn size crowd rule) (mayIn may) label e
 
   pub reached-start : (rest : ℕ) (of label : List ℕ) → length label ≡ 36 → (all : ℕ) → Mask (λ i. ltb i (size .rules)) all → (r : Bool)
-      → Says r (Among (size .steps) all 0 rule 0 label) → not r ≡ false → Naming (size .rules) rule of → Named (size .steps) of rest
-      → Reached (jobIn size class rule) (mayIn may) 0 rest label
+      → ForSteps all rule (λ steps. Says r (Among steps all rule 0 label)) → not r ≡ false → Naming (size .rules) rule of → Named (size .steps) of rest
+      → Reached (jobIn size crowd rule) (mayIn may) 0 rest label
   reached-start rest of label e all mask r says f naming n =
-      let a = says-true r (Among (size .steps) all 0 rule 0 label) says (not-false r f) in
-      let j = jobIn size class rule in
+      let a = says-true r (Among (size .steps) all rule 0 label) (says (size .steps) (λ i h. given .ruled .scopes i (all-below mask i h))) (not-false r f) in
+      let j = jobIn size crowd rule in
       record {
         patterned = nothing-patterned j (mayIn may) label e;
         passed = record {
-          possible = λ i l. a .possible i (mask-has mask i (lt-ltb i (size .rules) l)) (empty-lacks i);
+          possible = λ i l. a i (mask-has mask i (lt-ltb i (size .rules) l));
           realized = nothing-realized j (mayIn may) label;
         };
         below = n .below;
@@ -152,10 +152,10 @@ module _ {size : Size} {class rule : List ℕ}
 
   -- the search fails
   pub existence-lost : (plan label : List ℕ) {rest : ℕ} {last : List ℕ} (r : Bool) → length plan ≡ 12
-      → Outcome (jobIn size class rule) (mayIn may) 0 rest label last r → not r ≡ true
-      → Existence (jobIn size class rule) (mayIn may) plan plan false
+      → FindOutcome (jobIn size crowd rule) (mayIn may) 0 rest label last r → not r ≡ true
+      → Existence (jobIn size crowd rule) (mayIn may) plan plan false
   existence-lost plan label r e o f =
-      let j = jobIn size class rule in
+      let j = jobIn size crowd rule in
       record {
         sized = e;
         won = λ t. true-false refl (sym t);
@@ -164,27 +164,28 @@ module _ {size : Size} {class rule : List ℕ}
       }
 
   -- the search succeeds: the steps named are placed
-  finished : {rest : ℕ} {label last : List ℕ} (r : Bool) → Outcome (jobIn size class rule) (mayIn may) 0 rest label last r
-      → not r ≡ false → Reached (jobIn size class rule) (mayIn may) rest 0 last
+  finished : {rest : ℕ} {label last : List ℕ} (r : Bool) → FindOutcome (jobIn size crowd rule) (mayIn may) 0 rest label last r
+      → not r ≡ false → Reached (jobIn size crowd rule) (mayIn may) rest 0 last
   finished r o f = ended-reached (o .won (not-false r f))
 
-  pub finished-sized : {rest : ℕ} {label last crowd reach : List ℕ} (r : Bool) → length may ≡ 12
-      → Outcome (jobIn size class rule) (mayIn may) 0 rest label last r → not r ≡ false
-      → Indexed (size .people) (size .levels) class may crowd reach → Sized (size .levels) may last crowd reach rest
+  pub finished-sized : {rest : ℕ} {label last reach : List ℕ} (r : Bool) → length may ≡ 12
+      → FindOutcome (jobIn size crowd rule) (mayIn may) 0 rest label last r → not r ≡ false
+      → length reach ≡ 36 → ArraysSized (size .levels) may last crowd reach rest
   finished-sized {rest} {label} {last} r e o f w = sized given may rest last e (finished r o f .patterned) w
 
-  pub existence-won : {crowd reach : List ℕ} → Indexed (size .people) (size .levels) class may crowd reach → {rest : ℕ} {label last plan plan′ : List ℕ} (first : List ℕ) (a r : Bool) → Says a (AllStaffed (size .steps) (size .people) may) → not a ≡ false
-      → Outcome (jobIn size class rule) (mayIn may) 0 rest label last r → not r ≡ false → Spread (size .steps) may plan
+  pub existence-won : {reach : List ℕ} → Offers (jobIn size crowd rule) may reach → {rest : ℕ} {label last plan plan′ : List ℕ}
+      (first : List ℕ) (a r : Bool) → Says a (AllStaffed (size .steps) (size .people) may) → not a ≡ false
+      → FindOutcome (jobIn size crowd rule) (mayIn may) 0 rest label last r → not r ≡ false → GivesFirst (size .steps) may plan
       → Realizing (size .people) (size .levels) may last crowd reach rest plan plan′
-      → Existence (jobIn size class rule) (mayIn may) first plan′ true
-  existence-won indexed {rest} {label} {last} {plan} {plan′} first a r says f o g spread filled =
+      → Existence (jobIn size crowd rule) (mayIn may) first plan′ true
+  existence-won offers {rest} {label} {last} {plan} {plan′} first a r says f o g spread filled =
       let all = says-true a (AllStaffed (size .steps) (size .people) may) says (not-false a f) in
       let w = finished r o g in
       record {
         sized = filled .kept .sized ∙ spread .sized;
         won = λ t.
             reached-valid (searchable given) w (planIn plan′)
-            (filled .realizes class indexed (jobIn size class rule) (known given may rest last (w .patterned)) (w .passed .realized))
+            (filled .realizes (jobIn size crowd rule) (known given may rest last offers (w .patterned)) (w .passed .realized))
             (λ s l h.
             let x = all s l in
             let f = spread .each s l in

@@ -19,18 +19,18 @@ use Rattle.bits.proofs.Below.{by-cases, true-false, and-left, and-right}
 use Rattle.bits.proofs.Counting.{and-of, is-false, count-true, count-false, count-zero, count-grows}
 use Rattle.bits.proofs.Ones.{ones-bits}
 use Rattle.bits.proofs.SetLaws.{empty-lacks, or-bit, xor-bit, has-below, added-has, added-keeps, added-other, removed-was, removed-differs}
-use Rattle.workflow.specs.Problem.{Valid, opens, distinct}
-use Rattle.workflow.proofs.Counts.{opens-scope, opens-new}
+use Rattle.workflow.specs.Problem.{Job, Valid, opens, distinct}
+use Rattle.workflow.proofs.Counts.{opens-scope, opens-new, distinct-alike}
 use Rattle.matching.specs.Assignment.{Assignment, Covers, inMask, suits}
 use Rattle.pattern.specs.declared.Size.{Size}
 use Rattle.pattern.specs.Rule.{levelIn, leastIn, scopeIn}
 use Rattle.pattern.specs.Tables.{classIn, mayIn, jobIn}
-use Rattle.pattern.proofs.Leader.{leader-le}
-use Rattle.realize.specs.Parts.{Indexed, TablesOf}
-use Rattle.realize.proofs.Reach.{tables-of}
+use Rattle.pattern.specs.Realize.{leader}
+use Rattle.pattern.proofs.Leader.{leader-le, leader-same, leader-tells}
+use Rattle.realize.specs.Parts.{Offers}
 use Rattle.pattern.specs.Given.{Given}
 use Rattle.search.specs.Existence.{Existence}
-use Rattle.search.specs.Limits.{Gathering, Extra, Extras, Edges, Manned, Reaching, Limits}
+use Rattle.search.specs.Limits.{Gathering, Extra, Extras, Edges, Manned, ReachesLeast, Limits}
 
 -- ---- the classes of a scope
 
@@ -334,7 +334,7 @@ module _ {steps : ℕ} {reach : List ℕ} {q limit scope all mask : ℕ} {edges 
 module _ (steps : ℕ) (few : steps ≤ 12) (reach : List ℕ) (r : ℕ) (small : scopeIn r < 2 ^ steps) where
   pub reaching : {all : ℕ} (mask : ℕ) {edges : List ℕ} {found : Bool} {at : ℕ → ℕ} (enough : Bool) → Gathering steps reach (levelIn r - 1) (scopeIn r) all
       → Extras all (ones (scopeIn r) - leastIn r) enough mask → not enough ≡ false → Edges steps reach (levelIn r - 1) mask edges
-      → Covers (inMask (scopeIn r)) (suits edges) found at → Reaching steps reach r found
+      → Covers (inMask (scopeIn r)) (suits edges) found at → ReachesLeast steps reach r found
   reaching {all} mask {edges} {found} {at} enough g x t w o =
       record {
         short = λ e c manned l.
@@ -344,51 +344,46 @@ module _ (steps : ℕ) (few : steps ≤ 12) (reach : List ℕ) (r : ℕ) (small 
             o .complete e (spreading (hasBit (scopeIn r)) c (ex .member)) (assignment g ex w c manned l small);
       }
 
-  pub reaching-unknown : Reaching steps reach r true
+  pub reaching-unknown : ReachesLeast steps reach r true
   reaching-unknown = record { short = λ e. true-false refl e }
 
 -- ---- the rules
 
 module _ {steps rules : ℕ} {rule reach : List ℕ} where
-  pub limits-short : (i : ℕ) (r : Bool) → i < rules → Reaching steps reach (getD rule i 0) r → not r ≡ true → Limits steps rules rule reach false
+  pub limits-short : (i : ℕ) (r : Bool) → i < rules → ReachesLeast steps reach (getD rule i 0) r → not r ≡ true → Limits steps rules rule reach false
   limits-short i r l w f =
       record { unreached = λ _. record { which = i; below = l; short = record { short = λ e. w .short (not-true r f) } } }
 
   pub limits-passed : Limits steps rules rule reach true
   limits-passed = record { unreached = λ e. true-false refl e }
 
-module _ {size : Size} {class rule : List ℕ} (given : Given size class rule) (may : List ℕ) {crowd reach : List ℕ}
-    (w : Indexed (size .people) (size .levels) class may crowd reach) where
-  tables : TablesOf (jobIn size class rule) (size .levels) may crowd reach
-  tables =
-      tables-of w (jobIn size class rule) refl
-      (record {
-        depth = refl;
-        each = λ q u a b l. refl;
-        refining = given .refining;
-        few = given .few-people;
-        leads = given .leaders;
-      })
+module _ {size : Size} {crowd rule : List ℕ} (given : Given size crowd rule) (may : List ℕ) {reach : List ℕ} (offers : Offers (jobIn size crowd rule) may reach) where
+  abbrev j : Job
+  j = jobIn size crowd rule
 
-  -- the classes of a valid plan have somebody for the steps
-  manned : (π : ℕ → ℕ) → Valid (jobIn size class rule) (mayIn may) π → (q scope : ℕ) → 1 ≤ q → q ≤ size .levels
-      → Manned (size .steps) reach (q - 1) scope (λ s. classIn class q (π s))
+  -- the classes of a valid plan, by name, have somebody for the steps
+  manned : (π : ℕ → ℕ) → Valid (jobIn size crowd rule) (mayIn may) π → (q scope : ℕ) → 1 ≤ q → q ≤ size .levels
+      → Manned (size .steps) reach (q - 1) scope (λ s. leader j q (π s))
   manned π ok q scope from to s l h =
       let e : suc (q - 1) ≡ q = omega arith in (
-        omega (
-          arith,
-          given .leaders q (π s) from to (ok .within s l),
-          leader-le (jobIn size class rule) q (π s),
-          ok .within s l,
-          given .few-people,
-        ),
-        subst (λ (x : ℕ). hasBit (getD reach ((q - 1) * 12 + s) 0) (classIn class x (π s)) ≡ true) e
-            (tables .reach-has (q - 1) s (π s) (omega arith) (omega (arith, given .ruled .few-steps)) (ok .within s l) (ok .authorised s l)),
+        omega (arith, leader-le j q (π s), ok .within s l, given .few-people),
+        subst (λ (x : ℕ). hasBit (getD reach ((q - 1) * 12 + s) 0) (leader j x (π s)) ≡ true) e
+            (offers .has (q - 1) s (π s) (omega arith) (omega (arith, given .ruled .few-steps)) (ok .within s l) (ok .authorised s l)),
       )
+
+  -- there are as many names as classes
+  names-count : (π : ℕ → ℕ) → ((s : ℕ) → s < size .steps → π s < size .people) → (q : ℕ) (scope : ℕ → Bool)
+      → distinct (size .steps) scope (λ s. classIn crowd q (π s)) ≡ distinct (size .steps) scope (λ s. leader j q (π s))
+  names-count π within q scope =
+      distinct-alike (size .steps) scope _ _
+      (record {
+        forth = λ s t a b h k e. leader-same j q (π s) (π t) e;
+        back = λ s t a b h k e. leader-tells j q (π s) (π t) (within s a) (within t b) e;
+      })
 
   -- a lower limit that is not reached
   pub existence-short : (plan : List ℕ) → length plan ≡ 12 → (r : Bool) → Limits (size .steps) (size .rules) rule reach r → not r ≡ true
-      → Existence (jobIn size class rule) (mayIn may) plan plan false
+      → Existence (jobIn size crowd rule) (mayIn may) plan plan false
   existence-short plan e r limits f =
       let u = limits .unreached (not-true r f) in
       let i = u .which in
@@ -397,7 +392,8 @@ module _ {size : Size} {class rule : List ℕ} (given : Given size class rule) (
         sized = e;
         won = λ t. true-false refl (sym t);
         lost = λ t x.
-            u .short .short refl (λ s. classIn class (levelIn (getD rule i 0)) (x .0 s))
-            (manned (x .0) (x .1) (levelIn (getD rule i 0)) (scopeIn (getD rule i 0)) (ok .from) (ok .to)) (x .1 .eligible i (u .below) .least);
+            u .short .short refl (λ s. leader j (levelIn (getD rule i 0)) (x .0 s))
+            (manned (x .0) (x .1) (levelIn (getD rule i 0)) (scopeIn (getD rule i 0)) (ok .from) (ok .to))
+            (omega (arith, names-count (x .0) (x .1 .within) (levelIn (getD rule i 0)) (hasBit (scopeIn (getD rule i 0))), x .1 .eligible i (u .below) .least));
         kept = λ t. refl;
       }

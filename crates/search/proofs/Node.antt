@@ -9,7 +9,7 @@ use borrow.Author.Tests.{not-true, not-false}
 use Rattle.bits.specs.Word.{hasBit}
 use Rattle.bits.proofs.Below.{by-cases, true-false}
 use Rattle.bits.proofs.Counting.{is-false}
-use Rattle.bits.proofs.SetLaws.{empty-lacks, part-le, full-has}
+use Rattle.bits.proofs.Masks.{bits-below}
 use Rattle.workflow.specs.Problem.{Job, May, Rule, RuleOk}
 use Rattle.pattern.specs.declared.Size.{Size}
 use Rattle.pattern.specs.Pattern.{Label, Pattern, SamePattern}
@@ -24,87 +24,87 @@ use Rattle.pattern.proofs.Counted.{open-count-outside, group-count-outside}
 use Rattle.pattern.proofs.Search.{exists-realized, exists-possible}
 use Rattle.bits.specs.Says.{Says}
 use Rattle.bits.proofs.Says.{says-true, says-false}
-use Rattle.eligible.specs.Rules.{Rules, Among}
+use Rattle.eligible.specs.Rules.{RulesReady, ForSteps, Among}
 use Rattle.pattern.proofs.Given.{searchable}
-use Rattle.realize.specs.Parts.{Sized, Indexed, Known}
+use Rattle.realize.specs.Parts.{ArraysSized, Offers, TablesFor}
 use Rattle.realize.specs.Decision.{Realizable}
 use Rattle.pattern.specs.Given.{Given}
 use Rattle.search.specs.Growth.{Placeable, Grows, Joins}
-use Rattle.search.specs.State.{Patterned, Passing, Touched, Spared, Kept, partner, depth, Growable, Grew}
+use Rattle.search.specs.State.{Patterned, Passing, Touched, OthersPossible, LabelsKept, partner, depth, Growable, Grew}
 
-module _ {size : Size} {class rule : List ℕ}
-    (given : Given size class rule) (may : List ℕ) (placed : ℕ) (label : List ℕ) where
+module _ {size : Size} {crowd rule : List ℕ}
+    (given : Given size crowd rule) (may : List ℕ) (placed : ℕ) (label : List ℕ) where
+  inside-small : Patterned (jobIn size crowd rule) placed label → placed < 4096
+  inside-small p = bits-below 12 placed (λ s h. let l = p .inside s h in omega (arith, given .ruled .few-steps))
+
   -- the labels at the level of each rule of the job
-  pub rules-among : (among : ℕ) → Patterned (jobIn size class rule) placed label → ((i : ℕ) → hasBit among i ≡ true → i < size .rules)
-      → Rules (size .steps) among rule placed label
+  pub rules-among : (among : ℕ) → Patterned (jobIn size crowd rule) placed label → ((i : ℕ) → hasBit among i ≡ true → i < size .rules)
+      → RulesReady among rule placed label
   rules-among among p below =
       record {
         sized = given .ruled .sized;
         marked = λ i h.
             let ok = given .ruled .rule-ok i (below i h) in
             record {
-              few = given .ruled .few-steps;
               sized = p .sized;
               from = ok .from;
               to = omega (arith, ok .to, given .ruled .few-levels);
-              below = p .inside;
-              labels = λ s k. p .pattern .labelled (levelIn (getD rule i 0)) (ok .from) (ok .to) .below s (p .inside s k) k;
+              below = inside-small p;
+              labels = λ s k.
+                  let l = p .pattern .labelled (levelIn (getD rule i 0)) (ok .from) (ok .to) .below s (p .inside s k) k in
+                  omega (arith, given .ruled .few-steps);
             };
       }
 
-  pub sized : {crowd reach : List ℕ} → length may ≡ 12 → Patterned (jobIn size class rule) placed label
-      → Indexed (size .people) (size .levels) class may crowd reach → Sized (size .levels) may label crowd reach placed
+  pub sized : {reach : List ℕ} → length may ≡ 12 → Patterned (jobIn size crowd rule) placed label → length reach ≡ 36
+      → ArraysSized (size .levels) may label crowd reach placed
   sized masks p w =
       record {
         deep = given .ruled .few-levels;
         masks = masks;
         labels = p .sized;
-        crowds = w .crowds .sized;
-        reaches = w .reaches .sized;
-        below = let l : placed ≤ 4095 = part-le placed 4095 (λ s h. let b = p .inside s h in full-has 12 s (omega (arith, given .ruled .few-steps))) in omega arith;
+        crowds = given .crowds .sized;
+        reaches = w;
+        below = inside-small p;
       }
 
-  pub known : Patterned (jobIn size class rule) placed label
-      → Known (jobIn size class rule) (size .people) (size .levels) class label placed
-  known p =
+  pub known : {reach : List ℕ} → Offers (jobIn size crowd rule) may reach → Patterned (jobIn size crowd rule) placed label
+      → TablesFor (jobIn size crowd rule) (size .people) (size .levels) may label crowd reach placed
+  known offers p =
       record {
         crew = refl;
-        classes = record {
-          depth = refl;
-          each = λ q u a b l. refl;
-          refining = given .refining;
-          few = given .few-people;
-          leads = given .leaders;
-        };
+        depth = refl;
+        few = given .few-people;
+        classes = λ q u a b l. refl;
+        crowds = given .crowds;
+        refining = given .refining;
+        offers = offers;
         pattern = p .pattern;
         below = p .inside;
       }
 
   -- a rule cannot be met
-  pub passing-ruled-out : (among : ℕ) (r : Bool) → Spared (jobIn size class rule) among placed label
-      → Says r (Among (size .steps) among 0 rule placed label) → not r ≡ true
-      → Passing (jobIn size class rule) (mayIn may) placed label false
+  pub passing-ruled-out : (among : ℕ) (r : Bool) → OthersPossible (jobIn size crowd rule) among placed label
+      → ForSteps among rule (λ steps. Says r (Among steps among rule placed label)) → not r ≡ true
+      → Passing (jobIn size crowd rule) (mayIn may) placed label false
   passing-ruled-out among r w says f =
-      let n = says-false r (Among (size .steps) among 0 rule placed label) says (not-true r f) in
+      let n = says-false r (Among (size .steps) among rule placed label) (says (size .steps) (λ i h. given .ruled .scopes i (w .below i h))) (not-true r f) in
       record {
         won = λ e. true-false refl (sym e);
-        lost = λ e x. n (record {
-          part = λ i h. true-false h (empty-lacks i);
-          possible = λ i h k. exists-possible (jobIn size class rule) (mayIn may) (hasBit placed) (labelIn label) (searchable given) x i (w .below i h);
-        });
+        lost = λ e x. n (λ i h. exists-possible (jobIn size crowd rule) (mayIn may) (hasBit placed) (labelIn label) (searchable given) x i (w .below i h));
       }
 
-  pub passing-decided : {crowd reach : List ℕ} → Indexed (size .people) (size .levels) class may crowd reach → (among : ℕ) (e r : Bool) → Patterned (jobIn size class rule) placed label
-      → Spared (jobIn size class rule) among placed label
-      → Says e (Among (size .steps) among 0 rule placed label) → not e ≡ false → Realizable (size .people) (size .levels) may label crowd reach placed r
-      → Passing (jobIn size class rule) (mayIn may) placed label r
-  passing-decided indexed among e r p w possible f d =
-      let m = says-true e (Among (size .steps) among 0 rule placed label) possible (not-false e f) in
+  pub passing-decided : {reach : List ℕ} → Offers (jobIn size crowd rule) may reach → (among : ℕ) (e r : Bool) → Patterned (jobIn size crowd rule) placed label
+      → OthersPossible (jobIn size crowd rule) among placed label
+      → ForSteps among rule (λ steps. Says e (Among steps among rule placed label)) → not e ≡ false → Realizable (size .people) (size .levels) may label crowd reach placed r
+      → Passing (jobIn size crowd rule) (mayIn may) placed label r
+  passing-decided offers among e r p w possible f d =
+      let m = says-true e (Among (size .steps) among rule placed label) (possible (size .steps) (λ i h. given .ruled .scopes i (w .below i h))) (not-false e f) in
       let a : (i : ℕ) → i < size .rules → Possible (size .steps) (hasBit placed) (labelIn label) (ruleIn rule i)
-      = λ i l. by-cases (hasBit among i) (λ h. m .possible i h (empty-lacks i)) (λ h. w .possible i l h)
+      = λ i l. by-cases (hasBit among i) (m i) (λ h. w .possible i l h)
       in
-      let j = jobIn size class rule in
-      let says = d .says class indexed j (known p) in
+      let j = jobIn size crowd rule in
+      let says = d .says j (known offers p) in
       record {
         won = λ e. record { possible = a; realized = says-true r (Realized j (mayIn may) (labelIn label) 0 (hasBit placed) (λ p. true)) says e };
         lost = λ e x.
@@ -176,7 +176,7 @@ module _ {j : Job} {placed next s w : ℕ} {label : List ℕ} (g : Growable j pl
           }
 
       -- a rule that does not name s stays as it was
-      pub grown-spared : {among : ℕ} → Touched j among s → ((i : ℕ) → i < j .rules → RuleOk (j .steps) (j .levels) (j .rule i)) → Spared j among next label′
+      pub grown-spared : {among : ℕ} → Touched j among s → ((i : ℕ) → i < j .rules → RuleOk (j .steps) (j .levels) (j .rule i)) → OthersPossible j among next label′
       grown-spared touched ok =
           record {
             below = touched .below;
@@ -186,7 +186,7 @@ module _ {j : Job} {placed next s w : ℕ} {label : List ℕ} (g : Growable j pl
                 (partner w) (depth w) way (is-false _ (λ h. true-false (touched .all i l h) n)) (g .possible i l));
           }
 
-      kept : Kept j placed label label′
+      kept : LabelsKept j placed label label′
       kept q u a b h =
           let l : u < j .steps = g .patterned .inside u h in
           grows .each q u a b (omega arith)

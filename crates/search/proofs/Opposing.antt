@@ -17,9 +17,9 @@ use Rattle.pattern.specs.Tables.{classIn, jobIn}
 use Rattle.search.specs.Existence.{Existence}
 use Rattle.search.specs.Opposed.{Opposed}
 
-module _ (size : Size) (class rule : List ℕ) (w : Opposed (size .steps) (size .rules) rule) where
+module _ (size : Size) (crowd rule : List ℕ) (w : Opposed (size .steps) (size .rules) rule) where
   abbrev job : Job
-  job = jobIn size class rule
+  job = jobIn size crowd rule
 
   -- the scopes of the two rules
   abbrev above : ℕ
@@ -30,13 +30,13 @@ module _ (size : Size) (class rule : List ℕ) (w : Opposed (size .steps) (size 
 
   none-opposed : (may : May) → Satisfiable job may → ⊥
   none-opposed may (π, v) =
-      let c : ℕ → ℕ = λ s. classIn class (levelIn (getD rule (w .lower) 0)) (π s) in
+      let c : ℕ → ℕ = λ s. classIn crowd (levelIn (getD rule (w .lower) 0)) (π s) in
       let d : distinct (size .steps) (hasBit under) c
       ≤ distinct (size .steps) (hasBit above) c + count (size .steps) (λ s. hasBit under s && not (hasBit above s))
       = distinct-scope-split (size .steps) c (hasBit under) (hasBit above) (λ s. hasBit under s && not (hasBit above s))
       (λ s l h o. and-of (hasBit under s) _ h (ap not o)) in
-      let e : distinct (size .steps) (hasBit above) (λ s. classIn class (levelIn (getD rule (w .upper) 0)) (π s)) ≡ distinct (size .steps) (hasBit above) c
-      = ap (λ (q : ℕ). distinct (size .steps) (hasBit above) (λ s. classIn class q (π s))) (w .same) in
+      let e : distinct (size .steps) (hasBit above) (λ s. classIn crowd (levelIn (getD rule (w .upper) 0)) (π s)) ≡ distinct (size .steps) (hasBit above) c
+      = ap (λ (q : ℕ). distinct (size .steps) (hasBit above) (λ s. classIn crowd q (π s))) (w .same) in
       omega (arith, v .eligible (w .upper) (w .upper-below) .most, v .eligible (w .lower) (w .lower-below) .least, w .fewer)
 
   pub existence-opposed : (may : May) (plan : List ℕ) → length plan ≡ 12 → Existence job may plan plan false

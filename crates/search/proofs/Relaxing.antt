@@ -7,17 +7,21 @@ use lib.ListN.{length}
 use borrow.Author.Tests.{not-true}
 use Rattle.bits.proofs.Below.{true-false}
 use Rattle.workflow.specs.Problem.{Job, May}
-use Rattle.pattern.specs.declared.Size.{Size}
-use Rattle.pattern.specs.Tables.{mayIn, jobIn}
+use Rattle.pattern.specs.Tables.{mayIn}
+use Rattle.pattern.proofs.Classes.{named-same}
+use Rattle.levels.specs.declared.Tables.{Tables}
+use Rattle.levels.specs.Tabled.{tabledJob, Ready}
 use Rattle.levels.specs.Trims.{Trims}
 use Rattle.relax.specs.Relaxed.{Relaxes}
 use Rattle.search.specs.Existence.{Existence, Refuting}
 
-module _ {size one : Size} {class rule rule′ row crowd at of : List ℕ} (law : Relaxes size class rule rule′) (t : Trims size class rule′ one row crowd at of) where
-  pub refuting : (may plan plan′ : List ℕ) (r : Bool) → Existence (jobIn one row at) (mayIn may) plan plan′ r → Refuting (jobIn size class rule) (mayIn may) (not r)
+module _ {t one : Tables} {carried : List ℕ} (ready : Ready t) (law : Relaxes (t .size) (t .class) (t .rule) carried)
+    (trims : Trims (t .size) (t .class) carried one) where
+  pub refuting : (may plan plan′ : List ℕ) (r : Bool) → Existence (tabledJob one) (mayIn may) plan plan′ r → Refuting (tabledJob t) (mayIn may) (not r)
   refuting may plan plan′ r x =
+      let named = named-same (ready .tabled .given) (ready .names) in
       record {
-        none-valid = λ e (π, v). x .lost (not-true r e) (π, t .same .valid (mayIn may) π .0 (law .valid (mayIn may) π v));
+        none-valid = λ e (π, v). x .lost (not-true r e) (π, trims .same .valid (mayIn may) π .0 (law .valid (mayIn may) π (named .valid (mayIn may) π .0 v)));
       }
 
 pub refuting-none : (j : Job) (may : May) → Refuting j may false

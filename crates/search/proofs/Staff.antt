@@ -14,7 +14,7 @@ use Rattle.bits.specs.Set.{Added}
 use Rattle.bits.proofs.Below.{by-cases, true-false}
 use Rattle.bits.proofs.SetLaws.{empty-lacks, zero-empty, added-has, added-other}
 use Rattle.pattern.specs.Tables.{planIn}
-use Rattle.search.specs.Existence.{Named, Foremost, AllStaffed, Spread}
+use Rattle.search.specs.Existence.{Named, Foremost, AllStaffed, GivesFirst}
 
 pub foremost-empty : (mask : ℕ) → mask ≡ 0 → Foremost mask 64
 foremost-empty mask e = record { within = omega arith; has = λ l. absurd (omega arith); before = λ p l. zero-empty mask e p }
@@ -57,7 +57,7 @@ module _ {n : ℕ} {of : List ℕ} {r : ℕ} (w : Named n of r) where
             (λ t. let d = eqb-false s n t in w .covers s (omega arith) (sym (added-other more s d) ∙ h));
       }
 
-pub spread-more : (s p : ℕ) (may plan : List ℕ) → s < 12 → Foremost (getD may s 0) p → Spread s may plan → Spread (s + 1) may (set plan s p)
+pub spread-more : (s p : ℕ) (may plan : List ℕ) → s < 12 → Foremost (getD may s 0) p → GivesFirst s may plan → GivesFirst (s + 1) may (set plan s p)
 spread-more s p may plan l f w =
     record {
       sized = length-set plan s p ∙ w .sized;

@@ -24,10 +24,10 @@ use Rattle.pattern.proofs.Search.{exists-grown}
 use Rattle.pattern.specs.Given.{Given}
 use Rattle.levels.specs.Tabled.{Naming}
 use Rattle.search.specs.Growth.{Joins}
-use Rattle.search.specs.State.{Touched, Reached, Outcome, partner, depth, ByWay, Growable, Grew, Tried}
+use Rattle.search.specs.State.{Touched, Reached, FindOutcome, partner, depth, ByWay, Growable, Grew, WaysTried}
 
 -- no step is left
-pub outcome-end : {j : Job} {may : May} {placed rest : ℕ} {label : List ℕ} → Reached j may placed rest label → rest ≡ 0 → Outcome j may placed rest label label true
+pub outcome-end : {j : Job} {may : May} {placed rest : ℕ} {label : List ℕ} → Reached j may placed rest label → rest ≡ 0 → FindOutcome j may placed rest label label true
 outcome-end {j} {may} {placed} {rest} {label} w e =
     record {
       sized = w .patterned .sized;
@@ -55,7 +55,7 @@ moved-over false false false h = refl
 
 module _ {j : Job} {may : May} {placed rest next left s : ℕ} {label : List ℕ} (reached : Reached j may placed rest label) (chosen : hasBit rest s ≡ true)
     (added : Added placed s next) (gone : Removed rest s left) where
-  pub tried-none : Tried j may placed s 0 label label
+  pub tried-none : WaysTried j may placed s 0 label label
   tried-none = record { sized = reached .patterned .sized; kept = λ q u a b h. refl; failed = λ k l. absurd (omega arith) }
 
   pub reached-next : {w : ℕ} {before after : List ℕ} {r : Bool} → Grew j may placed next s w before after r → r ≡ true → Reached j may next left after
@@ -70,7 +70,7 @@ module _ {j : Job} {may : May} {placed rest next left s : ℕ} {label : List ℕ
             reached .named i u a l (sym (added-other added u d) ∙ n) (sym (removed-other gone u d) ∙ k);
       }
 
-  pub outcome-won : {after last : List ℕ} {r : Bool} → Outcome j may next left after last r → r ≡ true → Outcome j may placed rest label last true
+  pub outcome-won : {after last : List ℕ} {r : Bool} → FindOutcome j may next left after last r → r ≡ true → FindOutcome j may placed rest label last true
   outcome-won o e =
       let w = o .won e in
       record {
@@ -86,7 +86,7 @@ module _ {j : Job} {may : May} {placed rest next left s : ℕ} {label : List ℕ
         kept = λ t. true-false refl t;
       }
 
-  module _ {w : ℕ} {now : List ℕ} (tried : Tried j may placed s w label now) (within : w ≤ j .levels * 12) where
+  module _ {w : ℕ} {now : List ℕ} (tried : WaysTried j may placed s w label now) (within : w ≤ j .levels * 12) where
     pub turn-growable : ((i : ℕ) → i < j .rules → RuleOk (j .steps) (j .levels) (j .rule i)) → Growable j placed next s w now
     turn-growable ok =
         record {
@@ -146,7 +146,7 @@ module _ {j : Job} {may : May} {placed rest next left s : ℕ} {label : List ℕ
         (λ e. let y : k ≡ w → ⊥ = eqb-false k w e in tried .failed k (omega arith) i x)
 
     -- the way is refused by the tests
-    pub tried-lost : {after : List ℕ} {r : Bool} → Grew j may placed next s w now after r → r ≡ false → Tried j may placed s (w + 1) label after
+    pub tried-lost : {after : List ℕ} {r : Bool} → Grew j may placed next s w now after r → r ≡ false → WaysTried j may placed s (w + 1) label after
     tried-lost g e =
         record {
           sized = g .sized;
@@ -155,8 +155,8 @@ module _ {j : Job} {may : May} {placed rest next left s : ℕ} {label : List ℕ
         }
 
     -- or the search from there fails
-    pub tried-failed : {after last : List ℕ} {r r′ : Bool} → Grew j may placed next s w now after r → r ≡ true → Outcome j may next left after last r′
-        → r′ ≡ false → Tried j may placed s (w + 1) label last
+    pub tried-failed : {after last : List ℕ} {r r′ : Bool} → Grew j may placed next s w now after r → r ≡ true → FindOutcome j may next left after last r′
+        → r′ ≡ false → WaysTried j may placed s (w + 1) label last
     tried-failed g e o f =
         record {
           sized = o .sized;
@@ -165,8 +165,8 @@ module _ {j : Job} {may : May} {placed rest next left s : ℕ} {label : List ℕ
         }
 
   -- all ways are tried
-  pub outcome-lost : {w : ℕ} {now : List ℕ} → Refining j → j .steps ≤ 12 → Tried j may placed s w label now → j .levels * 12 < w
-      → Outcome j may placed rest label now false
+  pub outcome-lost : {w : ℕ} {now : List ℕ} → Refining j → j .steps ≤ 12 → WaysTried j may placed s w label now → j .levels * 12 < w
+      → FindOutcome j may placed rest label now false
   outcome-lost refining few tried full =
       record {
         sized = tried .sized;
@@ -214,7 +214,7 @@ module _ {j : Job} {may : May} {placed rest next left s : ℕ} {label : List ℕ
           may x)
 
 -- the rules that name a step, by the table
-pub named-touched : {size : Size} {class rule of : List ℕ} {s : ℕ}
-    → Given size class rule → Naming (size .rules) rule of → s < 12
-    → Touched (jobIn size class rule) (getD of s 0) s
-named-touched {s = s} g w l = record { below = λ i h. w .below i s l h; all = λ i k h. w .has i s k l h }
+pub named-touched : {size : Size} {crowd rule of : List ℕ} {s : ℕ}
+    → Given size crowd rule → Naming (size .rules) rule of → s < 12
+    → Touched (jobIn size crowd rule) (getD of s 0) s
+named-touched {s = s} g w l = record { below = λ i h. w .only i s l h .0; all = λ i k h. w .has i s k l h }

@@ -24,7 +24,7 @@ abbrev pub AllStaffed : ℕ → ℕ → List ℕ → Type 0
 AllStaffed steps people may = (s : ℕ) → s < steps → (p : ℕ) × (p < people) × (mayIn may s p ≡ true)
 
 -- the plan gives the steps below n the first people permitted
-pub record Spread (n : ℕ) (may plan : List ℕ) : Type 0 where
+pub record GivesFirst (n : ℕ) (may plan : List ℕ) : Type 0 where
   pub sized : length plan ≡ 12
   pub each : (s : ℕ) → s < n → Foremost (getD may s 0) (planIn plan s)
 

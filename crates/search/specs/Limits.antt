@@ -35,14 +35,14 @@ abbrev pub Manned : ℕ → List ℕ → ℕ → ℕ → (ℕ → ℕ) → Type 
 Manned steps reach q scope c = (s : ℕ) → s < steps → hasBit scope s ≡ true → (c s < 64) × (hasBit (getD reach (q * 12 + s) 0) (c s) ≡ true)
 
 -- where the answer is no, no such classes reach the least count of a rule
-pub record Reaching (steps : ℕ) (reach : List ℕ) (r : ℕ) (b : Bool) : Type 0 where
+pub record ReachesLeast (steps : ℕ) (reach : List ℕ) (r : ℕ) (b : Bool) : Type 0 where
   pub short : b ≡ false → (c : ℕ → ℕ) → Manned steps reach (levelIn r - 1) (scopeIn r) c → leastIn r ≤ distinct steps (hasBit (scopeIn r)) c → ⊥
 
 -- a rule whose least count no classes reach
 pub record Unreached (steps rules : ℕ) (rule reach : List ℕ) : Type 0 where
   pub which : ℕ
   pub below : which < rules
-  pub short : Reaching steps reach (getD rule which 0) false
+  pub short : ReachesLeast steps reach (getD rule which 0) false
 
 -- where the answer is no, there is one
 pub record Limits (steps rules : ℕ) (rule reach : List ℕ) (r : Bool) : Type 0 where

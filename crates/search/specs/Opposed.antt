@@ -2,7 +2,7 @@
 use mathlib.Core.Bool.{not, _&&_}
 use mathlib.Core.List.{List}
 use mathlib.Core.Path.{_≡_}
-use Prim.Native.Nat.{ℕ, _+_, _<_}
+use Prim.Native.Nat.{ℕ, _+_, _^_, _<_}
 use lib.ListN.{getD}
 use Rattle.bits.specs.Below.{count}
 use Rattle.bits.specs.Word.{hasBit}
@@ -18,3 +18,7 @@ pub record Opposed (steps rules : ℕ) (rule : List ℕ) : Type 0 where
   pub same : levelIn (getD rule upper 0) ≡ levelIn (getD rule lower 0)
   pub fewer : mostIn (getD rule upper 0) + count steps (λ s. hasBit (scopeIn (getD rule lower 0)) s && not (hasBit (scopeIn (getD rule upper 0)) s))
       < leastIn (getD rule lower 0)
+
+-- so it is for every number of steps that the scopes of the rules are of
+abbrev pub OpposedFor : ℕ → List ℕ → Type 0
+OpposedFor rules rule = (steps : ℕ) → ((i : ℕ) → i < rules → scopeIn (getD rule i 0) < 2 ^ steps) → Opposed steps rules rule

@@ -38,7 +38,7 @@ pub record Touched (j : Job) (among s : ℕ) : Type 0 where
   pub all : (i : ℕ) → i < j .rules → j .rule i .scope s ≡ true → hasBit among i ≡ true
 
 -- the rules outside the mask can still be met
-pub record Spared (j : Job) (among placed : ℕ) (label : List ℕ) : Type 0 where
+pub record OthersPossible (j : Job) (among placed : ℕ) (label : List ℕ) : Type 0 where
   pub below : (i : ℕ) → hasBit among i ≡ true → i < j .rules
   pub possible : (i : ℕ) → i < j .rules → hasBit among i ≡ false → Possible (j .steps) (hasBit placed) (labelIn label) (j .rule i)
 
@@ -51,21 +51,21 @@ pub record Reached (j : Job) (may : May) (placed rest : ℕ) (label : List ℕ) 
   pub named : (i s : ℕ) → i < j .rules → s < j .steps → hasBit placed s ≡ false → hasBit rest s ≡ false → j .rule i .scope s ≡ false
 
 -- the labels of the placed steps are as they were
-abbrev pub Kept : Job → ℕ → List ℕ → List ℕ → Type 0
-Kept j placed label label′ = (q s : ℕ) → 1 ≤ q → q ≤ j .levels → hasBit placed s ≡ true → labelIn label′ q s ≡ labelIn label q s
+abbrev pub LabelsKept : Job → ℕ → List ℕ → List ℕ → Type 0
+LabelsKept j placed label label′ = (q s : ℕ) → 1 ≤ q → q ≤ j .levels → hasBit placed s ≡ true → labelIn label′ q s ≡ labelIn label q s
 
 -- the search has placed every step
-pub record Ended (j : Job) (may : May) (placed rest : ℕ) (label : List ℕ) : Type 0 where
+pub record Completed (j : Job) (may : May) (placed rest : ℕ) (label : List ℕ) : Type 0 where
   pub final : ℕ
   pub reached : Reached j may final 0 label
   pub all : (s : ℕ) → hasBit final s ≡ hasBit placed s || hasBit rest s
 
 -- what the search comes to
-pub record Outcome (j : Job) (may : May) (placed rest : ℕ) (label label′ : List ℕ) (r : Bool) : Type 0 where
+pub record FindOutcome (j : Job) (may : May) (placed rest : ℕ) (label label′ : List ℕ) (r : Bool) : Type 0 where
   pub sized : length label′ ≡ 36
-  pub won : r ≡ true → Ended j may placed rest label′
+  pub won : r ≡ true → Completed j may placed rest label′
   pub lost : r ≡ false → Exists j may (hasBit placed) (labelIn label) → ⊥
-  pub kept : r ≡ false → Kept j placed label label′
+  pub kept : r ≡ false → LabelsKept j placed label label′
 
 -- way w to place a step: with step w mod 12, down to level (w + 11) / 12, so that way 0 joins no group
 abbrev pub partner : ℕ → ℕ
@@ -90,14 +90,14 @@ pub record Growable (j : Job) (placed next s w : ℕ) (label : List ℕ) : Type 
 -- what placing s in way w comes to
 pub record Grew (j : Job) (may : May) (placed next s w : ℕ) (label label′ : List ℕ) (r : Bool) : Type 0 where
   pub sized : length label′ ≡ 36
-  pub kept : Kept j placed label label′
+  pub kept : LabelsKept j placed label label′
   pub patterned : r ≡ true → Patterned j next label′
   pub passed : r ≡ true → Passed j may next label′
   pub same : r ≡ true → ByWay j may placed label s w → Exists j may (hasBit next) (labelIn label′)
   pub lost : r ≡ false → Joins placed label (partner w) (depth w) → ByWay j may placed label s w → ⊥
 
 -- the ways before w are tried
-pub record Tried (j : Job) (may : May) (placed s w : ℕ) (label label′ : List ℕ) : Type 0 where
+pub record WaysTried (j : Job) (may : May) (placed s w : ℕ) (label label′ : List ℕ) : Type 0 where
   pub sized : length label′ ≡ 36
-  pub kept : Kept j placed label label′
+  pub kept : LabelsKept j placed label label′
   pub failed : (k : ℕ) → k < w → Joins placed label (partner k) (depth k) → ByWay j may placed label s k → ⊥

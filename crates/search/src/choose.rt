@@ -1,9 +1,13 @@
 // Which step to place next. No promise rests on the choice: any open step will do. Few ways left, many
 // rules and many failed searches bring a step to the front.
 use super::ways::ways_left;
+use bits::sizes::Labels;
+use bits::sizes::MOST_STEPS;
+use bits::sizes::Reach;
+use bits::sizes::Rules;
+use bits::sizes::Weights;
 use bits::small::least_key;
-use bits::small::lowest;
-use bits::small::without;
+use bits::small::take;
 use pattern::Size;
 ghost use mathlib.Core.Bool.{true};
 ghost use mathlib.Core.Path.{_≡_};
@@ -18,15 +22,16 @@ fn key(ways: u32, weight: u32) -> u64 {
 }
 
 // The keys of some steps.
-fn keys(ways: &[u32; 12], weight: &[u32; 12], steps: u16) -> [u64; 12]
+fn keys(ways: &[u32; MOST_STEPS], weight: &Weights, steps: u16) -> [u64; MOST_STEPS]
     requires { ⌜ (length (now ways) ≡ 12) × (length (now weight) ≡ 12) × (steps < 4096) ⌝ }
     ensures { λ r. ⌜ length r ≡ 12 ⌝ }
 {
-    let mut all = [0u64; 12];
+    let mut all = [0u64; MOST_STEPS];
     let mut left = steps;
     while left != 0 {
-        let s = lowest(left);
-        left = without(left, s);
+        let next = take(left);
+        left = next.rest;
+        let s = next.first;
         all[s] = key(ways[s], weight[s]);
     }
     all
@@ -35,12 +40,12 @@ fn keys(ways: &[u32; 12], weight: &[u32; 12], steps: u16) -> [u64; 12]
 // The open step to place next, with the labels of the placed ones.
 pub fn next_step(
     size: Size,
-    rule: &[u32; 64],
-    reach: &[u64; 36],
+    rule: &Rules,
+    reach: &Reach,
     placed: u16,
     rest: u16,
-    label: &[u8; 36],
-    weight: &[u32; 12],
+    label: &Labels,
+    weight: &Weights,
 ) -> usize
     requires { ⌜ Ruled size (now rule) × (placed < 4096) × (rest < 4096) × (rest ≡ 0 → ⊥)
         × (length (now reach) ≡ 36) × (length (now label) ≡ 36) × (length (now weight) ≡ 12) ⌝ }

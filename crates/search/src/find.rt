@@ -3,16 +3,23 @@ use super::choose::next_step;
 use super::grow::Placing;
 use super::grow::grow;
 use super::weights::blame;
+use bits::sizes::Crowds;
+use bits::sizes::Domains;
+use bits::sizes::Labels;
+use bits::sizes::MOST_STEPS;
+use bits::sizes::Naming;
+use bits::sizes::Reach;
+use bits::sizes::Rules;
+use bits::sizes::Weights;
 use bits::small::with;
 use bits::small::without;
 use pattern::Size;
 ghost use mathlib.Core.Path.{_≡_};
-ghost use Prim.Native.Nat.{_*_};
 ghost use lib.ListN.{length};
 ghost use Rattle.levels.specs.Tabled.{Tabled};
 ghost use Rattle.pattern.specs.Tables.{mayIn, jobIn};
-ghost use Rattle.realize.specs.Parts.{Reachable};
-ghost use Rattle.search.specs.State.{Reached, Outcome};
+ghost use Rattle.realize.specs.Parts.{Offers};
+ghost use Rattle.search.specs.State.{Reached, FindOutcome};
 
 // The steps placed, and those that a rule names and that are still to be placed.
 pub struct Front {
@@ -24,20 +31,19 @@ pub struct Front {
 // the placed steps, whose labels are as they were.
 pub fn find(
     size: Size,
-    class: &[u8; 192],
-    crowd: &[u64; 192],
-    rule: &[u32; 64],
-    of: &[u64; 12],
-    may: &[u64; 12],
-    reach: &[u64; 36],
+    crowd: &Crowds,
+    rule: &Rules,
+    of: &Naming,
+    may: &Domains,
+    reach: &Reach,
     front: Front,
-    label: &mut [u8; 36],
-    weight: &mut [u32; 12],
+    label: &mut Labels,
+    weight: &mut Weights,
 ) -> bool
-    requires { ⌜ Tabled size (now class) (now crowd) (now rule) (now of) × (length (now may) ≡ 12) × (length (now weight) ≡ 12)
-        × Reached (jobIn size (now class) (now rule)) (mayIn (now may)) (front .placed) (front .rest) (now label)
-        × Reachable (size .people) (now class) (now may) (size .levels * 12) (now reach) ⌝ }
-    ensures { λ r. ⌜ Outcome (jobIn size (now (class .entry)) (now (rule .entry))) (mayIn (now (may .entry))) (front .placed) (front .rest) (now (label .entry)) (now (label .exit)) r
+    requires { ⌜ Tabled size (now crowd) (now rule) (now of) × (length (now may) ≡ 12) × (length (now weight) ≡ 12)
+        × Reached (jobIn size (now crowd) (now rule)) (mayIn (now may)) (front .placed) (front .rest) (now label)
+        × Offers (jobIn size (now crowd) (now rule)) (now may) (now reach) ⌝ }
+    ensures { λ r. ⌜ FindOutcome (jobIn size (now (crowd .entry)) (now (rule .entry))) (mayIn (now (may .entry))) (front .placed) (front .rest) (now (label .entry)) (now (label .exit)) r
         × (length (now (weight .exit)) ≡ 12) ⌝ }
 {
     if front.rest == 0 {
@@ -49,7 +55,7 @@ pub fn find(
         rest: without(front.rest, s),
     };
     let among = of[s];
-    let ways = size.levels * 12 + 1;
+    let ways = size.levels * MOST_STEPS + 1;
     for w in 0..ways {
         let placing = Placing {
             placed: front.placed,
@@ -57,21 +63,10 @@ pub fn find(
             step: s,
             way: w,
         };
-        if !grow(size, class, crowd, rule, may, reach, among, placing, label) {
+        if !grow(size, crowd, rule, may, reach, among, placing, label) {
             continue;
         }
-        if find(
-            size,
-            class,
-            crowd,
-            rule,
-            of,
-            may,
-            reach,
-            next,
-            label,
-            weight,
-        ) {
+        if find(size, crowd, rule, of, may, reach, next, label, weight) {
             return true;
         }
     }

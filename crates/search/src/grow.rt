@@ -2,6 +2,12 @@
 use super::meet::meets;
 use super::place::joins;
 use super::place::place;
+use bits::sizes::Crowds;
+use bits::sizes::Domains;
+use bits::sizes::Labels;
+use bits::sizes::MOST_STEPS;
+use bits::sizes::Reach;
+use bits::sizes::Rules;
 use eligible::eligible;
 use pattern::Size;
 use realize::realizable;
@@ -9,8 +15,11 @@ ghost use mathlib.Core.Path.{_≡_};
 ghost use lib.ListN.{length};
 ghost use Rattle.pattern.specs.Given.{Given};
 ghost use Rattle.pattern.specs.Tables.{mayIn, jobIn};
-ghost use Rattle.realize.specs.Parts.{Indexed};
-ghost use Rattle.search.specs.State.{Patterned, Passing, Touched, Spared, Growable, Grew};
+ghost use Rattle.realize.specs.Parts.{Offers};
+ghost use Rattle.search.specs.State.{Patterned, Passing, Touched, OthersPossible, Growable, Grew};
+
+// The greatest number of a step.
+const LAST_STEP: usize = MOST_STEPS - 1;
 
 // A step, a way to place it, and the steps placed before and with it.
 pub struct Placing {
@@ -24,21 +33,20 @@ pub struct Placing {
 // have people.
 fn passes(
     size: Size,
-    class: &[u8; 192],
-    crowd: &[u64; 192],
-    rule: &[u32; 64],
-    may: &[u64; 12],
-    reach: &[u64; 36],
+    crowd: &Crowds,
+    rule: &Rules,
+    may: &Domains,
+    reach: &Reach,
     among: u64,
     placed: u16,
-    label: &[u8; 36],
+    label: &Labels,
 ) -> bool
-    requires { ⌜ Given size (now class) (now rule) × (length (now may) ≡ 12) × Patterned (jobIn size (now class) (now rule)) placed (now label)
-        × Indexed (size .people) (size .levels) (now class) (now may) (now crowd) (now reach)
-        × Spared (jobIn size (now class) (now rule)) among placed (now label) ⌝ }
-    ensures { λ r. ⌜ Passing (jobIn size (now (class .entry)) (now (rule .entry))) (mayIn (now (may .entry))) placed (now (label .entry)) r ⌝ }
+    requires { ⌜ Given size (now crowd) (now rule) × (length (now may) ≡ 12) × Patterned (jobIn size (now crowd) (now rule)) placed (now label)
+        × Offers (jobIn size (now crowd) (now rule)) (now may) (now reach)
+        × OthersPossible (jobIn size (now crowd) (now rule)) among placed (now label) ⌝ }
+    ensures { λ r. ⌜ Passing (jobIn size (now (crowd .entry)) (now (rule .entry))) (mayIn (now (may .entry))) placed (now (label .entry)) r ⌝ }
 {
-    if !eligible(size.steps, among, rule, placed, label) {
+    if !eligible(among, rule, placed, label) {
         return false;
     }
     realizable(size, may, label, crowd, reach, placed)
@@ -48,24 +56,23 @@ fn passes(
 // name the step: the others stay as they were.
 pub fn grow(
     size: Size,
-    class: &[u8; 192],
-    crowd: &[u64; 192],
-    rule: &[u32; 64],
-    may: &[u64; 12],
-    reach: &[u64; 36],
+    crowd: &Crowds,
+    rule: &Rules,
+    may: &Domains,
+    reach: &Reach,
     among: u64,
     placing: Placing,
-    label: &mut [u8; 36],
+    label: &mut Labels,
 ) -> bool
-    requires { ⌜ Given size (now class) (now rule) × (length (now may) ≡ 12)
-        × Growable (jobIn size (now class) (now rule)) (placing .placed) (placing .next) (placing .step) (placing .way) (now label)
-        × Indexed (size .people) (size .levels) (now class) (now may) (now crowd) (now reach)
-        × Touched (jobIn size (now class) (now rule)) among (placing .step) ⌝ }
-    ensures { λ r. ⌜ Grew (jobIn size (now (class .entry)) (now (rule .entry))) (mayIn (now (may .entry))) (placing .placed) (placing .next) (placing .step) (placing .way) (now (label .entry)) (now (label .exit)) r ⌝ }
+    requires { ⌜ Given size (now crowd) (now rule) × (length (now may) ≡ 12)
+        × Growable (jobIn size (now crowd) (now rule)) (placing .placed) (placing .next) (placing .step) (placing .way) (now label)
+        × Offers (jobIn size (now crowd) (now rule)) (now may) (now reach)
+        × Touched (jobIn size (now crowd) (now rule)) among (placing .step) ⌝ }
+    ensures { λ r. ⌜ Grew (jobIn size (now (crowd .entry)) (now (rule .entry))) (mayIn (now (may .entry))) (placing .placed) (placing .next) (placing .step) (placing .way) (now (label .entry)) (now (label .exit)) r ⌝ }
 {
     let s = placing.step;
-    let t = placing.way % 12;
-    let d = (placing.way + 11) / 12;
+    let t = placing.way % MOST_STEPS;
+    let d = (placing.way + LAST_STEP) / MOST_STEPS;
     if !joins(placing.placed, label, t, d) {
         return false;
     }
@@ -73,15 +80,5 @@ pub fn grow(
         return false;
     }
     place(size.levels, label, s, t, d);
-    passes(
-        size,
-        class,
-        crowd,
-        rule,
-        may,
-        reach,
-        among,
-        placing.next,
-        label,
-    )
+    passes(size, crowd, rule, may, reach, among, placing.next, label)
 }

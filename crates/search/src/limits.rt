@@ -1,6 +1,9 @@
 // A test of the lower limits, once for a search: where a rule asks for so many classes over the steps of
 // its scope, so many of these steps can be given different classes that have somebody for them.
 use bits::set;
+use bits::sizes::MOST_STEPS;
+use bits::sizes::Reach;
+use bits::sizes::Rules;
 use bits::small;
 use matching::assign;
 use pattern::Size;
@@ -11,7 +14,7 @@ ghost use lib.ListN.{length};
 ghost use Rattle.bits.specs.Word.{bitsSet};
 ghost use Rattle.pattern.specs.Given.{Ruled};
 ghost use Rattle.pattern.specs.Rule.{levelIn, leastIn, scopeIn};
-ghost use Rattle.search.specs.Limits.{Gathering, Extras, Edges, Reaching, Limits};
+ghost use Rattle.search.specs.Limits.{Gathering, Extras, Edges, ReachesLeast, Limits};
 
 // Classes that are to spare: whether there are enough, and then a mask of them.
 pub struct Spares {
@@ -20,7 +23,7 @@ pub struct Spares {
 }
 
 // The classes of level `q` + 1 with somebody for a step of the scope.
-fn classes_of(steps: usize, reach: &[u64; 36], q: usize, scope: u16) -> u64
+fn classes_of(steps: usize, reach: &Reach, q: usize, scope: u16) -> u64
     requires { ⌜ (steps ≤ 12) × (length (now reach) ≡ 36) × (q < 3) ⌝ }
     ensures { λ r. ⌜ Gathering steps (now (reach .entry)) q scope r ⌝ }
 {
@@ -29,7 +32,7 @@ fn classes_of(steps: usize, reach: &[u64; 36], q: usize, scope: u16) -> u64
         if !small::has(scope, s) {
             continue;
         }
-        all = all | reach[q * 12 + s];
+        all = all | reach[q * MOST_STEPS + s];
     }
     all
 }
@@ -47,8 +50,9 @@ fn extra_classes(all: u64, spare: usize) -> Spares
                 mask: 0,
             };
         }
-        let c = set::lowest(free);
-        free = set::without(free, c);
+        let next = set::take(free);
+        free = next.rest;
+        let c = next.first;
         mask = set::with(mask, c);
     }
     Spares {
@@ -58,22 +62,22 @@ fn extra_classes(all: u64, spare: usize) -> Spares
 }
 
 // The classes of level `q` + 1 with somebody for each step, and the extra ones.
-fn edges_of(steps: usize, reach: &[u64; 36], q: usize, extra: u64) -> [u64; 12]
+fn edges_of(steps: usize, reach: &Reach, q: usize, extra: u64) -> [u64; MOST_STEPS]
     requires { ⌜ (steps ≤ 12) × (length (now reach) ≡ 36) × (q < 3) ⌝ }
     ensures { λ r. ⌜ Edges steps (now (reach .entry)) q extra r ⌝ }
 {
-    let mut edges = [0u64; 12];
+    let mut edges = [0u64; MOST_STEPS];
     for s in 0..steps {
-        edges[s] = reach[q * 12 + s] | extra;
+        edges[s] = reach[q * MOST_STEPS + s] | extra;
     }
     edges
 }
 
 // Whether as many steps of a rule's scope as its least count can be given different classes: the others have
 // extra classes then. Where there are not so many classes to spare, nothing is said.
-fn reaches_least(steps: usize, reach: &[u64; 36], r: u32) -> bool
+fn reaches_least(steps: usize, reach: &Reach, r: u32) -> bool
     requires { ⌜ (steps ≤ 12) × (length (now reach) ≡ 36) × (1 ≤ levelIn r) × (levelIn r ≤ 3) × (scopeIn r < 2 ^ steps) × (leastIn r ≤ bitsSet steps (scopeIn r)) ⌝ }
-    ensures { λ b. ⌜ Reaching steps (now (reach .entry)) r b ⌝ }
+    ensures { λ b. ⌜ ReachesLeast steps (now (reach .entry)) r b ⌝ }
 {
     let scope = rule::scope(r);
     let q = rule::level(r) - 1;
@@ -88,7 +92,7 @@ fn reaches_least(steps: usize, reach: &[u64; 36], r: u32) -> bool
 }
 
 // Whether each lower limit can be reached. Those of one class and of two are left to the search.
-pub fn limits_reached(size: Size, rule: &[u32; 64], reach: &[u64; 36]) -> bool
+pub fn limits_reached(size: Size, rule: &Rules, reach: &Reach) -> bool
     requires { ⌜ Ruled size (now rule) × (length (now reach) ≡ 36) ⌝ }
     ensures { λ r. ⌜ Limits (size .steps) (size .rules) (now (rule .entry)) (now (reach .entry)) r ⌝ }
 {

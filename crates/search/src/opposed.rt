@@ -1,36 +1,35 @@
 // Rules that exclude each other: a scope has at most the classes of another, and one more for each step
 // outside that one. So an upper limit on the one can be too low for a lower limit on the other.
+use bits::sizes::Rules;
 use eligible::open_count;
-use pattern::Size;
 use pattern::rule;
 ghost use mathlib.Core.Bool.{true};
 ghost use mathlib.Core.Path.{_≡_};
-ghost use Prim.Native.Nat.{_<_};
-ghost use Rattle.pattern.specs.Given.{Ruled};
-ghost use Rattle.search.specs.Opposed.{Opposed};
+ghost use Prim.Native.Nat.{ℕ, _≤_, _<_};
+ghost use lib.ListN.{length};
+ghost use Rattle.search.specs.Opposed.{OpposedFor};
 
 // Whether rule `i` leaves rule `k` too few classes.
-fn excludes(size: Size, rule: &[u32; 64], i: usize, k: usize) -> bool
-    requires { ⌜ Ruled size (now rule) × (i < size .rules) × (k < size .rules) ⌝ }
-    ensures { λ r. ⌜ (r ≡ true → Opposed (size .steps) (size .rules) (now (rule .entry))) ⌝ }
+fn excludes(rule: &Rules, i: usize, k: usize) -> bool
+    requires { ⌜ (length (now rule) ≡ 64) × (i < 64) × (k < 64) ⌝ }
+    ensures { λ r. ⌜ (r ≡ true → (rules : ℕ) → i < rules → k < rules → OpposedFor rules (now (rule .entry))) ⌝ }
 {
     let upper = rule[i];
     let lower = rule[k];
     if rule::level(upper) != rule::level(lower) {
         return false;
     }
-    let outside = open_count(size.steps, rule::scope(lower), rule::scope(upper));
+    let outside = open_count(rule::scope(lower), rule::scope(upper));
     rule::most(upper) + outside < rule::least(lower)
 }
 
 // Whether rule `i` leaves some rule too few classes.
-fn excludes_some(size: Size, rule: &[u32; 64], i: usize) -> bool
-    requires { ⌜ Ruled size (now rule) × (i < size .rules) ⌝ }
-    ensures { λ r. ⌜ (r ≡ true → Opposed (size .steps) (size .rules) (now (rule .entry))) ⌝ }
+fn excludes_some(rules: usize, rule: &Rules, i: usize) -> bool
+    requires { ⌜ (rules ≤ 64) × (length (now rule) ≡ 64) × (i < rules) ⌝ }
+    ensures { λ r. ⌜ (r ≡ true → OpposedFor rules (now (rule .entry))) ⌝ }
 {
-    let rules = size.rules;
     for k in 0..rules {
-        if excludes(size, rule, i, k) {
+        if excludes(rule, i, k) {
             return true;
         }
     }
@@ -38,13 +37,12 @@ fn excludes_some(size: Size, rule: &[u32; 64], i: usize) -> bool
 }
 
 // Whether two rules exclude each other.
-pub fn opposed(size: Size, rule: &[u32; 64]) -> bool
-    requires { ⌜ Ruled size (now rule) ⌝ }
-    ensures { λ r. ⌜ (r ≡ true → Opposed (size .steps) (size .rules) (now (rule .entry))) ⌝ }
+pub fn opposed(rules: usize, rule: &Rules) -> bool
+    requires { ⌜ (rules ≤ 64) × (length (now rule) ≡ 64) ⌝ }
+    ensures { λ r. ⌜ (r ≡ true → OpposedFor rules (now (rule .entry))) ⌝ }
 {
-    let rules = size.rules;
     for i in 0..rules {
-        if excludes_some(size, rule, i) {
+        if excludes_some(rules, rule, i) {
             return true;
         }
     }

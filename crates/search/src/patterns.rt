@@ -5,21 +5,26 @@ use super::limits::limits_reached;
 use super::opposed::opposed;
 use bits::set::below;
 use bits::set::lowest;
+use bits::sizes::Domains;
+use bits::sizes::LABEL_ENTRIES;
+use bits::sizes::Naming;
+use bits::sizes::Plan;
+use bits::sizes::Weights;
 use bits::small::with;
 use eligible::eligible;
-use pattern::Size;
+use levels::Tables;
 use realize::realize;
 use realize::tables::reaches;
 ghost use mathlib.Core.Path.{_≡_};
 ghost use Prim.Native.Nat.{_≤_};
 ghost use lib.ListN.{length};
 ghost use Rattle.bits.specs.Says.{Says};
-ghost use Rattle.levels.specs.Tabled.{Tabled};
-ghost use Rattle.pattern.specs.Tables.{mayIn, jobIn};
-ghost use Rattle.search.specs.Existence.{Named, Foremost, AllStaffed, Spread, Existence};
+ghost use Rattle.levels.specs.Tabled.{tabledJob, Ready};
+ghost use Rattle.pattern.specs.Tables.{mayIn};
+ghost use Rattle.search.specs.Existence.{Named, Foremost, AllStaffed, GivesFirst, Existence};
 
 // The steps that rules name.
-fn named(steps: usize, of: &[u64; 12]) -> u16
+fn named(steps: usize, of: &Naming) -> u16
     requires { ⌜ (steps ≤ 12) × (length (now of) ≡ 12) ⌝ }
     ensures { λ r. ⌜ Named steps (now (of .entry)) r ⌝ }
 {
@@ -44,7 +49,7 @@ fn foremost(mask: u64) -> usize
 }
 
 // Whether each step has somebody permitted.
-fn staffed(steps: usize, people: usize, may: &[u64; 12]) -> bool
+fn staffed(steps: usize, people: usize, may: &Domains) -> bool
     requires { ⌜ (steps ≤ 12) × (people ≤ 64) × (length (now may) ≡ 12) ⌝ }
     ensures { λ r. ⌜ Says r (AllStaffed steps people (now (may .entry))) ⌝ }
 {
@@ -57,9 +62,9 @@ fn staffed(steps: usize, people: usize, may: &[u64; 12]) -> bool
 }
 
 // Gives each step the first person permitted.
-fn spread(steps: usize, may: &[u64; 12], plan: &mut [u8; 12])
+fn give_first(steps: usize, may: &Domains, plan: &mut Plan)
     requires { ⌜ (steps ≤ 12) × (length (now may) ≡ 12) × (length (now plan) ≡ 12) ⌝ }
-    ensures { λ _. ⌜ Spread steps (now (may .entry)) (now (plan .exit)) ⌝ }
+    ensures { λ _. ⌜ GivesFirst steps (now (may .entry)) (now (plan .exit)) ⌝ }
 {
     for s in 0..steps {
         let p = foremost(may[s]);
@@ -69,44 +74,39 @@ fn spread(steps: usize, may: &[u64; 12], plan: &mut [u8; 12])
 
 // Whether there is a valid plan; `plan` is then one, and else as it was. Rules that exclude each other and
 // lower limits out of reach need no search.
-pub fn by_patterns(
-    size: Size,
-    class: &[u8; 192],
-    crowd: &[u64; 192],
-    rule: &[u32; 64],
-    of: &[u64; 12],
-    may: &[u64; 12],
-    weight: &mut [u32; 12],
-    plan: &mut [u8; 12],
-) -> bool
-    requires { ⌜ Tabled size (now class) (now crowd) (now rule) (now of) × (length (now may) ≡ 12) × (length (now weight) ≡ 12) × (length (now plan) ≡ 12) ⌝ }
-    ensures { λ r. ⌜ Existence (jobIn size (now (class .entry)) (now (rule .entry))) (mayIn (now (may .entry))) (now (plan .entry)) (now (plan .exit)) r × (length (now (weight .exit)) ≡ 12) ⌝ }
+pub fn by_patterns(tables: Tables, may: &Domains, weight: &mut Weights, plan: &mut Plan) -> bool
+    requires { ⌜ Ready tables × (length (now may) ≡ 12) × (length (now weight) ≡ 12) × (length (now plan) ≡ 12) ⌝ }
+    ensures { λ r. ⌜ Existence (tabledJob tables) (mayIn (now (may .entry))) (now (plan .entry)) (now (plan .exit)) r × (length (now (weight .exit)) ≡ 12) ⌝ }
 {
-    if opposed(size, rule) {
+    let size = tables.size;
+    let rule = tables.rule;
+    if opposed(size.rules, &rule) {
         return false;
     }
     if !staffed(size.steps, size.people, may) {
         return false;
     }
-    let mut label = [0u8; 36];
-    if !eligible(size.steps, below(size.rules), rule, 0, &label) {
+    let mut label = [0u8; LABEL_ENTRIES];
+    if !eligible(below(size.rules), &rule, 0, &label) {
         return false;
     }
-    let reach = reaches(size.people, size.levels, class, may);
-    if !limits_reached(size, rule, &reach) {
+    let class = tables.class;
+    let reach = reaches(size.people, size.levels, &class, may);
+    if !limits_reached(size, &rule, &reach) {
         return false;
     }
-    let rest = named(size.steps, of);
+    let crowd = tables.crowd;
+    let of = tables.of;
+    let rest = named(size.steps, &of);
     let front = Front {
         placed: 0,
         rest: rest,
     };
     if !find(
         size,
-        class,
-        crowd,
-        rule,
-        of,
+        &crowd,
+        &rule,
+        &of,
         may,
         &reach,
         front,
@@ -115,7 +115,7 @@ pub fn by_patterns(
     ) {
         return false;
     }
-    spread(size.steps, may, plan);
-    realize(size, may, &label, crowd, &reach, rest, plan);
+    give_first(size.steps, may, plan);
+    realize(size, may, &label, &crowd, &reach, rest, plan);
     true
 }

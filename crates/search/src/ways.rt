@@ -1,5 +1,10 @@
 // How many ways each open step has left, by the rules alone. A step with few ways is placed next, so that
 // a search which fails does so early. No promise rests on it.
+use bits::sizes::LABEL_ENTRIES;
+use bits::sizes::Labels;
+use bits::sizes::MOST_STEPS;
+use bits::sizes::Reach;
+use bits::sizes::Rules;
 use bits::small;
 use pattern::Size;
 use pattern::rule;
@@ -8,20 +13,21 @@ ghost use mathlib.Core.Path.{_≡_};
 ghost use Prim.Native.Nat.{_<_, _≤_};
 ghost use lib.ListN.{length};
 ghost use Rattle.pattern.specs.Given.{Ruled};
-ghost use Rattle.pattern.specs.Rule.{levelIn};
+ghost use Rattle.pattern.specs.Rule.{levelIn, scopeIn};
 
 // Any label.
 const ANY: u16 = 0xffff;
 
 // The labels of some steps at the level whose labels begin at `top`.
-fn labels_of(steps: u16, top: usize, label: &[u8; 36]) -> u16
+fn labels_of(steps: u16, top: usize, label: &Labels) -> u16
     requires { ⌜ (steps < 4096) × (top ≤ 24) × (length (now label) ≡ 36) ⌝ }
 {
     let mut found: u16 = 0;
     let mut left = steps;
     while left != 0 {
-        let s = small::lowest(left);
-        left = small::without(left, s);
+        let next = small::take(left);
+        left = next.rest;
+        let s = next.first;
         found = small::with(found, (label[top + s] % 16) as usize);
     }
     found
@@ -29,28 +35,30 @@ fn labels_of(steps: u16, top: usize, label: &[u8; 36]) -> u16
 
 // The steps of a scope that are in a set.
 fn within(scope: u16, steps: u16) -> u16
+    requires { ⌜ scope < 4096 ⌝ }
     ensures { λ r. ⌜ r < 4096 ⌝ }
 {
-    scope % 4096 & steps
+    scope & steps
 }
 
 // Leaves some steps only such labels.
-fn leave(steps: u16, top: usize, labels: u16, free: &mut [u16; 36])
+fn leave(steps: u16, top: usize, labels: u16, free: &mut [u16; LABEL_ENTRIES])
     requires { ⌜ (steps < 4096) × (top ≤ 24) × (length (now free) ≡ 36) ⌝ }
     ensures { λ _. ⌜ length (now (free .exit)) ≡ 36 ⌝ }
 {
     let mut left = steps;
     while left != 0 {
-        let s = small::lowest(left);
-        left = small::without(left, s);
+        let next = small::take(left);
+        left = next.rest;
+        let s = next.first;
         free[top + s] = free[top + s] & labels;
     }
 }
 
 // The labels that a rule leaves to its open steps: at its upper end those that its placed steps have, at
 // its lower end the others.
-fn by_rule(r: u32, placed: u16, label: &[u8; 36], free: &mut [u16; 36])
-    requires { ⌜ (1 ≤ levelIn r) × (levelIn r ≤ 3) × (length (now label) ≡ 36) × (length (now free) ≡ 36) ⌝ }
+fn by_rule(r: u32, placed: u16, label: &Labels, free: &mut [u16; LABEL_ENTRIES])
+    requires { ⌜ (1 ≤ levelIn r) × (levelIn r ≤ 3) × (length (now label) ≡ 36) × (length (now free) ≡ 36) × (scopeIn r < 4096) ⌝ }
     ensures { λ _. ⌜ length (now (free .exit)) ≡ 36 ⌝ }
 {
     let scope = rule::scope(r);
@@ -58,7 +66,7 @@ fn by_rule(r: u32, placed: u16, label: &[u8; 36], free: &mut [u16; 36])
     if left == 0 {
         return;
     }
-    let top = (rule::level(r) - 1) * 12;
+    let top = (rule::level(r) - 1) * MOST_STEPS;
     let labels = labels_of(within(scope, placed), top, label);
     let groups = small::size(labels);
     if groups >= rule::most(r) {
@@ -72,7 +80,7 @@ fn by_rule(r: u32, placed: u16, label: &[u8; 36], free: &mut [u16; 36])
 }
 
 // The labels that all rules leave to the open steps.
-fn by_rules(size: Size, rule: &[u32; 64], placed: u16, label: &[u8; 36], free: &mut [u16; 36])
+fn by_rules(size: Size, rule: &Rules, placed: u16, label: &Labels, free: &mut [u16; LABEL_ENTRIES])
     requires { ⌜ Ruled size (now rule) × (length (now label) ≡ 36) × (length (now free) ≡ 36) ⌝ }
     ensures { λ _. ⌜ length (now (free .exit)) ≡ 36 ⌝ }
 {
@@ -85,20 +93,23 @@ fn by_rules(size: Size, rule: &[u32; 64], placed: u16, label: &[u8; 36], free: &
 // Whether step `s` can join the group of level `q` + 1 that is named by `t`: they reach a class in common,
 // and the labels are free.
 fn joinable(
-    reach: &[u64; 36],
-    free: &[u16; 36],
-    label: &[u8; 36],
+    reach: &Reach,
+    free: &[u16; LABEL_ENTRIES],
+    label: &Labels,
     q: usize,
     s: usize,
     t: usize,
 ) -> bool
     requires { ⌜ (q < 3) × (s < 12) × (t < 12) × (length (now reach) ≡ 36) × (length (now free) ≡ 36) × (length (now label) ≡ 36) ⌝ }
 {
-    if reach[q * 12 + s] & reach[q * 12 + t] == 0 {
+    if reach[q * MOST_STEPS + s] & reach[q * MOST_STEPS + t] == 0 {
         return false;
     }
     for x in 0..q + 1 {
-        if !small::has(free[x * 12 + s], (label[x * 12 + t] % 16) as usize) {
+        if !small::has(
+            free[x * MOST_STEPS + s],
+            (label[x * MOST_STEPS + t] % 16) as usize,
+        ) {
             return false;
         }
     }
@@ -107,9 +118,9 @@ fn joinable(
 
 // Those of some groups of level `q` + 1 that step `s` can join.
 fn joined(
-    reach: &[u64; 36],
-    free: &[u16; 36],
-    label: &[u8; 36],
+    reach: &Reach,
+    free: &[u16; LABEL_ENTRIES],
+    label: &Labels,
     q: usize,
     s: usize,
     groups: u16,
@@ -119,8 +130,9 @@ fn joined(
     let mut found: u16 = 0;
     let mut left = groups;
     while left != 0 {
-        let t = small::lowest(left);
-        left = small::without(left, t);
+        let next = small::take(left);
+        left = next.rest;
+        let t = next.first;
         if !joinable(reach, free, label, q, s, t) {
             continue;
         }
@@ -132,9 +144,9 @@ fn joined(
 // How many ways step `s` has: to join a group and be new below its level, or new at all levels.
 fn ways_of(
     levels: usize,
-    reach: &[u64; 36],
-    free: &[u16; 36],
-    label: &[u8; 36],
+    reach: &Reach,
+    free: &[u16; LABEL_ENTRIES],
+    label: &Labels,
     heads: &[u16; 3],
     s: usize,
 ) -> u32
@@ -144,7 +156,7 @@ fn ways_of(
     for k in 0..levels {
         let q = levels - 1 - k;
         ways += small::size(joined(reach, free, label, q, s, heads[q] % 4096)) as u32;
-        if !small::has(free[q * 12 + s], s) {
+        if !small::has(free[q * MOST_STEPS + s], s) {
             return ways;
         }
     }
@@ -152,7 +164,7 @@ fn ways_of(
 }
 
 // The groups of each level, by their names.
-fn heads_of(levels: usize, placed: u16, label: &[u8; 36]) -> [u16; 3]
+fn heads_of(levels: usize, placed: u16, label: &Labels) -> [u16; 3]
     requires { ⌜ (levels ≤ 3) × (placed < 4096) × (length (now label) ≡ 36) ⌝ }
     ensures { λ r. ⌜ length r ≡ 3 ⌝ }
 {
@@ -166,20 +178,21 @@ fn heads_of(levels: usize, placed: u16, label: &[u8; 36]) -> [u16; 3]
 // How many ways each step of `rest` has.
 fn counted(
     levels: usize,
-    reach: &[u64; 36],
-    free: &[u16; 36],
-    label: &[u8; 36],
+    reach: &Reach,
+    free: &[u16; LABEL_ENTRIES],
+    label: &Labels,
     heads: &[u16; 3],
     rest: u16,
-) -> [u32; 12]
+) -> [u32; MOST_STEPS]
     requires { ⌜ (levels ≤ 3) × (rest < 4096) × (length (now reach) ≡ 36) × (length (now free) ≡ 36) × (length (now label) ≡ 36) × (length (now heads) ≡ 3) ⌝ }
     ensures { λ r. ⌜ length r ≡ 12 ⌝ }
 {
-    let mut ways = [0u32; 12];
+    let mut ways = [0u32; MOST_STEPS];
     let mut left = rest;
     while left != 0 {
-        let s = small::lowest(left);
-        left = small::without(left, s);
+        let next = small::take(left);
+        left = next.rest;
+        let s = next.first;
         ways[s] = ways_of(levels, reach, free, label, heads, s);
     }
     ways
@@ -188,16 +201,16 @@ fn counted(
 // How many ways each open step has left.
 pub fn ways_left(
     size: Size,
-    rule: &[u32; 64],
-    reach: &[u64; 36],
+    rule: &Rules,
+    reach: &Reach,
     placed: u16,
     rest: u16,
-    label: &[u8; 36],
-) -> [u32; 12]
+    label: &Labels,
+) -> [u32; MOST_STEPS]
     requires { ⌜ Ruled size (now rule) × (placed < 4096) × (rest < 4096) × (length (now reach) ≡ 36) × (length (now label) ≡ 36) ⌝ }
     ensures { λ r. ⌜ length r ≡ 12 ⌝ }
 {
-    let mut free = [ANY; 36];
+    let mut free = [ANY; LABEL_ENTRIES];
     by_rules(size, rule, placed, label, &mut free);
     let heads = heads_of(size.levels, placed, label);
     counted(size.levels, reach, &free, label, &heads, rest)

@@ -1,23 +1,19 @@
 -- The chains of a sheet that was read: every card but the header is on exactly one. Assumes nothing.
 use mathlib.Core.Bool.{Bool, true, false, not, _||_}
 use mathlib.Core.List.{List, _++_}
-use mathlib.Core.Path.{_≡_, sym, _∙_, ap, ap₂}
+use mathlib.Core.Path.{_≡_, sym, _∙_, ap}
 use Prim.Native.Nat.{ℕ, _<_, _≤_}
 use native.Mathlib.Omega.{arith}
 use lib.Dec.{eqb}
-use lib.ListN.{length, getD}
+use lib.ListN.{getD}
 use borrow.Author.Tests.{ne-eqb, not-false}
-use Rattle.bits.specs.Below.{first}
+use Rattle.bits.specs.Member.{member}
+use Rattle.bits.proofs.Member.{member-place, member-append}
 use Rattle.bits.proofs.Below.{first-none}
-use Rattle.card.specs.Layout.{personKind, stepKind, ruleKind}
-use Rattle.card.specs.Fields.{firstPerson, firstStep, firstRule}
-use Rattle.chain.specs.Walk.{member}
-use Rattle.chain.specs.Answer.{chainOf}
-use Rattle.chain.specs.Chained.{Chained}
 use Rattle.chain.proofs.Chained.{walk-chained}
 use Rattle.sheet.specs.Read.{firstLoose}
 use Rattle.sheet.specs.Readable.{Chains}
-use Rattle.sheet.proofs.Lists.{member-append, member-place, each-append, once-append}
+use Rattle.sheet.proofs.Lists.{each-append, once-append}
 use Rattle.sheet.proofs.Passes.{Passes}
 
 -- where no card is loose every card but the header was reached
@@ -37,13 +33,13 @@ chains s n people steps rules p =
       steps-chain = b;
       rules-chain = d;
       covered = λ c l m.
-          member-place c (people ++ steps ++ rules)
-          (member-append c (people ++ steps) rules ∙ ap (λ (t : Bool). t || member c rules) (member-append c people steps) ∙ none-loose n _ (p .no-loose) c l m);
+          member-place (people ++ steps ++ rules) c
+          (member-append (people ++ steps) rules c ∙ ap (λ (t : Bool). t || member rules c) (member-append people steps c) ∙ none-loose n _ (p .no-loose) c l m);
       once =
           once-append (people ++ steps) rules
           (once-append people steps (a .apart) (b .apart) (b .fresh))
           (d .apart)
-          (λ k l. member-append (getD rules k 0) people steps ∙ d .fresh k l);
+          (λ k l. member-append people steps (getD rules k 0) ∙ d .fresh k l);
       inside = each-append (people ++ steps) rules (λ (x : ℕ). x < n) (each-append people steps (λ (x : ℕ). x < n) (a .inside) (b .inside)) (d .inside);
       some = each-append (people ++ steps) rules (λ (x : ℕ). 0 < x) (each-append people steps (λ (x : ℕ). 0 < x) (a .some) (b .some)) (d .some);
     }

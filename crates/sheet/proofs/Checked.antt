@@ -1,5 +1,5 @@
 -- The tests that follow the chains: each refusal, and the job, is what `checked` gives. Assumes nothing.
-use mathlib.Core.Bool.{Bool, _||_}
+use mathlib.Core.Bool.{Bool}
 use mathlib.Core.List.{List}
 use mathlib.Core.Path.{_≡_}
 use Prim.Native.Nat.{ℕ, _<_, _≤_}
@@ -7,8 +7,8 @@ use lib.ListN.{length, getD}
 use borrow.Author.Tests.{lt-ltb, le-ltb}
 use Rattle.bits.proofs.Below.{first-cong}
 use Rattle.bits.proofs.Counting.{any-cong}
-use Rattle.chain.specs.Walk.{member}
-use Rattle.sheet.specs.Read.{job, fault, checked, firstClash, firstLoose, sameTag, benchMoved, tagFault, benchFault, looseFault}
+use Rattle.card.specs.Refusals.{tagFault, benchFault, looseFault}
+use Rattle.sheet.specs.Read.{job, fault, checked, onThree, firstClash, firstLoose, sameTag, benchMoved}
 
 -- a clash depends on the pairs below the bound alone
 pub clash-cong : (n : ℕ) (f g : ℕ → ℕ → Bool) → ((j k : ℕ) → j < k → k < n → f j k ≡ g j k) → firstClash n f ≡ firstClash n g
@@ -31,7 +31,7 @@ module _ (s : List ℕ) (n : ℕ) (people steps rules : List ℕ) (i : ℕ) (is-
       unfolding checked
       bench-fault l = rw (← is-i, le-ltb _ _ past-i, ← is-j, le-ltb _ _ past-j, ← is-k, lt-ltb _ _ l)
 
-      module _ (past-k : length people ≤ k) (c : ℕ) (is-c : c ≡ firstLoose n (λ c. member c people || member c steps || member c rules)) where
+      module _ (past-k : length people ≤ k) (c : ℕ) (is-c : c ≡ firstLoose n (onThree people steps rules)) where
         pub loose-fault : c < n → fault looseFault c ≡ checked s n people steps rules
         unfolding checked
         loose-fault l = rw (← is-i, le-ltb _ _ past-i, ← is-j, le-ltb _ _ past-j, ← is-k, le-ltb _ _ past-k, ← is-c, lt-ltb _ _ l)

@@ -1,6 +1,6 @@
 pub mod Fill
 pub mod Tests
-pub mod SlotLaws
+pub mod Clashes
 pub mod Checked
 pub mod Arrays
 pub mod Stage

@@ -1,17 +1,16 @@
 -- A sheet that was read has passed every test on the way. Assumes nothing.
-use mathlib.Core.Bool.{Bool, true, false, not, _||_}
-use mathlib.Core.List.{List, []}
+use mathlib.Core.Bool.{Bool, true, false, not}
+use mathlib.Core.List.{List}
 use mathlib.Core.Path.{_≡_, refl, subst}
 use Prim.Native.Nat.{ℕ, _/_, _≤_}
 use native.Mathlib.Omega.{arith}
 use lib.Dec.{eqb, ltb}
-use lib.ListN.{length, getD}
+use lib.ListN.{length}
 use borrow.Author.Tests.{eqb-false, ltb-false, not-false}
-use Rattle.card.specs.Fields.{headerOk, firstPerson, firstStep, firstRule}
-use Rattle.card.specs.Layout.{personKind, stepKind, ruleKind}
-use Rattle.chain.specs.Walk.{Walked, listed, refused, walk, member}
-use Rattle.chain.specs.Answer.{chainOf}
-use Rattle.sheet.specs.Read.{Read, job, fault, along, unless, lengthOk, checked, stepsRead, peopleRead, readPeople, readSheet, firstClash, firstLate, firstLoose, sameTag, benchMoved, mostPeople, mostSteps, mostRules}
+use Rattle.card.specs.Fields.{headerOk}
+use Rattle.chain.specs.Walk.{Walked, listed, refused}
+use Rattle.sheet.specs.Read.{Read, job, along, unless, lengthOk, checked, stepsRead, peopleRead, readPeople, readSheet}
+use Rattle.sheet.specs.Read.{firstClash, firstLate, firstLoose, sameTag, benchMoved, onThree, peopleWalk, stepsWalk, rulesWalk}
 
 -- a test that was passed: it did not refuse, and the rest gives the same
 unless-job : (t : Bool) (f c : ℕ) (r : Read) (people steps rules : List ℕ) → unless t f c r ≡ job people steps rules → (t ≡ false) × (r ≡ job people steps rules)
@@ -30,30 +29,30 @@ along-listed (refused f c) next people steps rules e = let z : _≡_ {A = ℕ} 0
 
 -- what every test said
 pub record Passes (s : List ℕ) (n : ℕ) (people steps rules : List ℕ) : Type 0 where
-  pub people-walk : walk (chainOf s n personKind 0 (λ c. false)) mostPeople [] 0 (firstPerson s) ≡ listed people
+  pub people-walk : peopleWalk s n ≡ listed people
   pub people-some : length people ≡ 0 → ⊥
-  pub steps-walk : walk (chainOf s n stepKind 0 (λ c. member c people)) mostSteps [] 0 (firstStep s) ≡ listed steps
+  pub steps-walk : stepsWalk s n people ≡ listed steps
   pub steps-some : length steps ≡ 0 → ⊥
   pub no-late : length people ≤ firstLate s (length steps) people
-  pub rules-walk : walk (chainOf s n ruleKind (length steps) (λ c. member c people || member c steps)) mostRules [] 0 (firstRule s) ≡ listed rules
+  pub rules-walk : rulesWalk s n people steps (length steps) ≡ listed rules
   pub people-tags : length people ≤ firstClash (length people) (sameTag s people)
   pub steps-tags : length steps ≤ firstClash (length steps) (sameTag s steps)
   pub benches : length people ≤ firstClash (length people) (benchMoved s people)
-  pub no-loose : n ≤ firstLoose n (λ c. member c people || member c steps || member c rules)
+  pub no-loose : n ≤ firstLoose n (onThree people steps rules)
 
 module _ (s : List ℕ) (n : ℕ) (people′ steps′ rules′ : List ℕ) where
   checked-job : (people steps rules : List ℕ) → checked s n people steps rules ≡ job people′ steps′ rules′
       → (length people ≤ firstClash (length people) (sameTag s people))
       × (length steps ≤ firstClash (length steps) (sameTag s steps))
       × (length people ≤ firstClash (length people) (benchMoved s people))
-      × (n ≤ firstLoose n (λ c. member c people || member c steps || member c rules))
+      × (n ≤ firstLoose n (onThree people steps rules))
       × (job people steps rules ≡ job people′ steps′ rules′)
   unfolding checked
   checked-job people steps rules e =
       let i = firstClash (length people) (sameTag s people) in
       let k = firstClash (length steps) (sameTag s steps) in
       let b = firstClash (length people) (benchMoved s people) in
-      let c = firstLoose n (λ c. member c people || member c steps || member c rules) in
+      let c = firstLoose n (onThree people steps rules) in
       let p₁ = unless-job (ltb i (length people)) _ _ _ people′ steps′ rules′ e in
       let p₂ = unless-job (ltb k (length steps)) _ _ _ people′ steps′ rules′ (p₁ .1) in
       let p₃ = unless-job (ltb b (length people)) _ _ _ people′ steps′ rules′ (p₂ .1) in

@@ -1,21 +1,20 @@
 -- The job of a sheet that was read is as the papers ask. Assumes nothing.
 use mathlib.Core.Bool.{Bool, true, false, not, _&&_}
 use mathlib.Core.List.{List}
-use mathlib.Core.Path.{_≡_, refl, sym, _∙_, ap, ap₂, subst}
-use Prim.Native.Nat.{ℕ, zero, suc, _+_, _*_, _/_, _^_, _<_, _≤_}
+use mathlib.Core.Path.{_≡_, refl, sym, _∙_, ap, subst}
+use Prim.Native.Nat.{ℕ, _/_, _^_, _<_, _≤_}
 use native.Mathlib.Omega.{arith}
 use native.Mathlib.Nat.{div-lt-iff-lt-mul, one-mul}
 use lib.Dec.{eqb, leb, ltb}
 use lib.ListN.{length, getD}
 use lib.Pow.{pow-pos}
 use borrow.Author.Tests.{eqb-true, eqb-false, eq-eqb, leb-true, ltb-true, ltb-false, not-true, not-false}
-use Rattle.bits.specs.Below.{first, any}
+use Rattle.bits.specs.Below.{any}
 use Rattle.bits.proofs.Below.{by-cases, first-none, and-left, and-right}
 use Rattle.bits.proofs.Counting.{any-none}
 use Rattle.card.specs.Layout.{cardByte, cardWord, cardLong, personKind, stepKind, ruleKind}
-use Rattle.card.specs.Fields.{personOk, stepOk, ruleOk, fieldsOk, tagOf, shopOf, benchOf, permittedOf, ruleKindOf, levelOf, limitOf, scopeOf, limitOk, scopeSize, within, nonzero, onlyBelow}
+use Rattle.card.specs.Fields.{personOk, stepOk, ruleOk, tagOf, shopOf, benchOf, permittedOf, ruleKindOf, levelOf, limitOf, scopeOf, limitOk, scopeSize, nonzero, onlyBelow}
 use Rattle.card.proofs.ByKind.{fields-person, fields-step, fields-rule}
-use Rattle.chain.specs.Chained.{Chained}
 use Rattle.sheet.specs.Read.{Read, job, fault, firstClash, firstLate, sameTag, benchMoved, readSheet}
 use Rattle.sheet.specs.Answer.{answer, jobOf, table, sheetOf}
 use Rattle.sheet.specs.Readable.{ReadableJob, ReadSheet}
@@ -63,7 +62,8 @@ RuleTests s steps c =
 rule-tests : (s : List ℕ) (steps c : ℕ) → ruleOk s steps c ≡ true → RuleTests s steps c
 unfolding ruleOk
 rule-tests s steps c h =
-    go (limitOk (ruleKindOf s c) (limitOf s c) (scopeSize (scopeOf s c))) (leb 1 (levelOf s c)) (leb (levelOf s c) 3) (onlyBelow steps (scopeOf s c)) (eqb (cardLong s c 8) 0) (eqb (cardLong s c 12) 0) h
+    let limit = limitOk (ruleKindOf s c) (limitOf s c) (scopeSize (scopeOf s c)) in
+    go limit (leb 1 (levelOf s c)) (leb (levelOf s c) 3) (onlyBelow steps (scopeOf s c)) (eqb (cardLong s c 8) 0) (eqb (cardLong s c 12) 0) h
   where
     go : (l a b p y z : Bool) → l && (a && b) && p && y && z ≡ true → (l ≡ true) × (a ≡ true) × (b ≡ true) × (p ≡ true)
     go l a b p y z h =

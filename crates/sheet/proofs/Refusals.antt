@@ -1,5 +1,5 @@
 -- A refusal of the reader is one of 3 to 12, at a card that a sheet can have. Assumes nothing.
-use mathlib.Core.Bool.{Bool, true, false, not, _||_}
+use mathlib.Core.Bool.{Bool, true, false, not}
 use mathlib.Core.List.{List, []}
 use mathlib.Core.Path.{_≡_, refl, ap₂, subst}
 use Prim.Native.Nat.{ℕ, _/_, _<_, _≤_}
@@ -7,15 +7,15 @@ use native.Mathlib.Omega.{arith}
 use lib.Dec.{eqb, ltb}
 use lib.ListN.{length, getD}
 use borrow.Author.Tests.{ltb-true, not-false}
-use Rattle.bits.proofs.Below.{by-cases}
 use Rattle.card.specs.Fields.{headerOk}
-use Rattle.chain.specs.Walk.{Walked, Chain, listed, refused, walk, member}
+use Rattle.chain.specs.Walk.{Walked, Chain, listed, refused, walk}
 use Rattle.chain.proofs.Chained.{walk-chained}
 use Rattle.chain.proofs.Refused.{walk-refused}
-use Rattle.sheet.specs.Read.{Read, job, fault, along, unless, unlessAt, lengthOk, checked, stepsRead, peopleRead, readPeople, readSheet, firstClash, firstLate, firstLoose, sameTag, benchMoved}
+use Rattle.sheet.specs.Read.{Read, job, fault, along, unless, unlessAt, lengthOk, checked, stepsRead, peopleRead, readPeople, readSheet}
+use Rattle.sheet.specs.Read.{firstClash, firstLate, firstLoose, sameTag, benchMoved, onThree}
 use Rattle.sheet.specs.Answer.{answer, sheetOf}
 use Rattle.sheet.specs.Readable.{ReadRefusal}
-use Rattle.sheet.specs.declared.Reading.the-variants.{Readable, Refused}
+use Rattle.sheet.specs.declared.Reading.the-variants.{Refused}
 use Rattle.sheet.proofs.Order.{length-facts}
 
 -- a refusal of a test, or of what follows it
@@ -49,7 +49,7 @@ module _ (s : List ℕ) (n : ℕ) (some : 0 < n) (most : n ≤ 141) (g d : ℕ) 
       (λ e₁. at-card 10 steps (firstClash (length steps) (sameTag s steps)) _ (omega arith) (omega arith) is e₁
       (λ e₂. at-card 11 people (firstClash (length people) (benchMoved s people)) _ (omega arith) (omega arith) ip e₂
       (λ e₃.
-      let c = firstLoose n (λ c. member c people || member c steps || member c rules) in
+      let c = firstLoose n (onThree people steps rules) in
       unless-fault (ltb c n) 12 c _ g d e₃
       (λ t x y. let z : c < n = ltb-true _ _ t in record { from = omega arith; to = omega arith; card = omega arith })
       (λ t z. let a : _≡_ {A = ℕ} 0 1 = cc in absurd (omega arith)))))

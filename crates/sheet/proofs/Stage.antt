@@ -2,20 +2,20 @@
 use mathlib.Core.Bool.{Bool, false, _||_}
 use mathlib.Core.List.{List, []}
 use mathlib.Core.Path.{_≡_, refl, sym, _∙_, ap, fun-ext}
-use Prim.Native.Nat.{ℕ, zero, suc, _+_, _*_, _<_, _≤_}
+use Prim.Native.Nat.{ℕ, zero, suc, _*_, _<_, _≤_}
 use native.Mathlib.Omega.{arith}
 use lib.ListN.{length, getD, take, replicate}
 use lib.Seq.{length-take-le, getD-take}
-use Rattle.chain.specs.Walk.{listed, refused, walk, member}
-use Rattle.chain.specs.Answer.{Walks, answered, chainOf, marked, listedCount}
+use Rattle.bits.specs.Member.{member}
+use Rattle.chain.specs.Walk.{listed, refused, walk}
+use Rattle.chain.specs.Answer.{Walks, asWalked, chainOf, marked, listedCount}
 use Rattle.chain.specs.declared.Ended.{Ended}
 use Rattle.chain.specs.declared.Ended.the-variants.{Listed, Refused}
 use Rattle.chain.proofs.Chained.{walk-chained}
 use Rattle.sheet.specs.Cards.{Listing, Marking}
 
-module _ (s : List ℕ) (cards kind steps most first : ℕ) (marks₀ : List Bool) (reached : ℕ → Bool) (m : Marking s cards marks₀ reached) (fits : most ≤ 64)
-    (start : ℕ) (starts : first ≡ start)
-    (ended : Ended) (marks : List Bool) (list : List ℕ)
+module _ {s : List ℕ} {cards : ℕ} (kind steps : ℕ) {most first : ℕ} {marks₀ : List Bool} {reached : ℕ → Bool} (m : Marking s cards marks₀ reached) (fits : most ≤ 64)
+    {start : ℕ} (starts : first ≡ start) {ended : Ended} {marks : List Bool} {list : List ℕ}
     (w : Walks most (walk (chainOf s cards kind steps (marked marks₀)) most [] 0 first) ended (marked marks₀) marks list) where
   -- the walk over the marks is the walk over the cards reached
   walk-reached : walk (chainOf s cards kind steps (marked marks₀)) most [] 0 first ≡ walk (chainOf s cards kind steps reached) most [] 0 start
@@ -23,12 +23,12 @@ module _ (s : List ℕ) (cards kind steps most first : ℕ) (marks₀ : List Boo
       ap (λ (b : ℕ → Bool). walk (chainOf s cards kind steps b) most [] 0 first) (fun-ext (m .so-far))
       ∙ ap (λ (i : ℕ). walk (chainOf s cards kind steps reached) most [] 0 i) starts
 
-  pub stage-refused : (f c : ℕ) → ended ≡ Refused f c → walk (chainOf s cards kind steps reached) most [] 0 start ≡ refused f c
-  stage-refused f c e = sym walk-reached ∙ sym (w .answer) ∙ ap (λ (x : Ended). answered x list) e
+  pub stage-refused : {f c : ℕ} → ended ≡ Refused f c → walk (chainOf s cards kind steps reached) most [] 0 start ≡ refused f c
+  stage-refused e = sym walk-reached ∙ sym (w .answer) ∙ ap (λ (x : Ended). asWalked x list) e
 
-  module _ (n : ℕ) (e : ended ≡ Listed n) where
+  module _ {n : ℕ} (e : ended ≡ Listed n) where
     pub stage-listed : walk (chainOf s cards kind steps reached) most [] 0 start ≡ listed (take n list)
-    stage-listed = sym walk-reached ∙ sym (w .answer) ∙ ap (λ (x : Ended). answered x list) e
+    stage-listed = sym walk-reached ∙ sym (w .answer) ∙ ap (λ (x : Ended). asWalked x list) e
 
     pub stage-count : n ≤ most
     stage-count =
@@ -49,14 +49,14 @@ module _ (s : List ℕ) (cards kind steps most first : ℕ) (marks₀ : List Boo
               let b = m .whole in omega arith;
         }
 
-    pub stage-marking : Marking s cards marks (λ c. reached c || member c (take n list))
+    pub stage-marking : Marking s cards marks (λ c. reached c || member (take n list) c)
     stage-marking =
         record {
           some = m .some;
           most = m .most;
           whole = m .whole;
           size = w .marks-length;
-          so-far = λ c. w .marking (take n list) (walk-reached ∙ stage-listed) c ∙ ap (λ (b : Bool). b || member c (take n list)) (m .so-far c);
+          so-far = λ c. w .marking (take n list) (walk-reached ∙ stage-listed) c ∙ ap (λ (b : Bool). b || member (take n list) c) (m .so-far c);
         }
 
 -- before any chain no card is marked

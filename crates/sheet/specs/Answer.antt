@@ -1,12 +1,11 @@
 -- The reader's answer: the counts or the refusal, and the job's arrays beside it. Assumes nothing.
 use mathlib.Core.List.{List, map, _++_}
-use Prim.Native.Nat.{ℕ, _+_, _*_, _-_}
+use Prim.Native.Nat.{ℕ, _+_, _-_}
 use lib.ListN.{length, replicate}
 use Rattle.card.specs.Fields.{tagOf, shopOf, benchOf, permittedOf, ruleKindOf, levelOf, limitOf, scopeOf}
 use Rattle.sheet.specs.Read.{Read, job, fault, readSheet}
-use Rattle.sheet.specs.declared.Job.{Job}
+use Rattle.sheet.specs.declared.SheetJob.{SheetJob}
 use Rattle.sheet.specs.declared.Sheet.{Sheet}
-use Rattle.sheet.specs.declared.Reading.{Reading}
 use Rattle.sheet.specs.declared.Reading.the-variants.{Readable, Refused}
 
 -- a field of each card, along the chain, and zeros up to the array's size
@@ -14,7 +13,7 @@ unfoldable pub table : ℕ → (ℕ → ℕ) → List ℕ → List ℕ
 table size field l = map field l ++ replicate (size - length l) 0
 
 -- the arrays of the job that the chains' cards describe
-unfoldable pub jobOf : List ℕ → List ℕ → List ℕ → List ℕ → Job
+unfoldable pub jobOf : List ℕ → List ℕ → List ℕ → List ℕ → SheetJob
 jobOf s people steps rules =
     record {
       «person_tag» = table 64 (tagOf s) people;
@@ -32,7 +31,7 @@ abbrev pub zeros : ℕ → List ℕ
 zeros n = replicate n 0
 
 -- the arrays beside a refusal
-abbrev pub noJob : Job
+abbrev pub noJob : SheetJob
 noJob =
     record {
       «person_tag» = zeros 64;

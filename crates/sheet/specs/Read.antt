@@ -6,9 +6,11 @@ use Prim.Native.Nat.{ℕ, _/_, _%_}
 use lib.Dec.{eqb, leb, ltb}
 use lib.ListN.{length, getD}
 use Rattle.bits.specs.Below.{any, first}
+use Rattle.bits.specs.Member.{member}
 use Rattle.card.specs.Layout.{personKind, stepKind, ruleKind}
 use Rattle.card.specs.Fields.{headerOk, firstPerson, firstStep, firstRule, tagOf, shopOf, benchOf, permittedOf, nonzero, onlyBelow}
-use Rattle.chain.specs.Walk.{Walked, listed, refused, walk, member, fieldFault, countFault}
+use Rattle.card.specs.Refusals.{lengthFault, headerFault, fieldFault, countFault, tagFault, benchFault, looseFault}
+use Rattle.chain.specs.Walk.{Walked, listed, refused, walk}
 use Rattle.chain.specs.Answer.{chainOf}
 
 -- "1 to 64 people, 1 to 12 steps, 0 to 64 rules, so at most 141 cards or 2,256 bytes."
@@ -23,27 +25,6 @@ mostRules = 64
 
 abbrev pub mostBytes : ℕ
 mostBytes = 2256
-
--- The refusals of a whole sheet; those of a chain are in `chain`.
--- "3: length zero, no multiple of 16, or above 2,256. Card 0."
-abbrev pub lengthFault : ℕ
-lengthFault = 3
-
--- "4: header not as above; card number not the length / 16. Card 0."
-abbrev pub headerFault : ℕ
-headerFault = 4
-
--- "10: a tag on two people or on two steps. The first card along the chain whose tag stood earlier on it."
-abbrev pub tagFault : ℕ
-tagFault = 10
-
--- "11: a bench in two shops. The first person whose bench stood earlier with another shop."
-abbrev pub benchFault : ℕ
-benchFault = 11
-
--- "12: a card on no chain. The lowest."
-abbrev pub looseFault : ℕ
-looseFault = 12
 
 -- what reading gives: the cards of the people, steps and rules, each along its chain, or a refusal and its card
 pub data Read : Type 0 where
@@ -86,6 +67,13 @@ firstLate s steps people = first (length people) (λ k. not (onlyBelow steps (pe
 unfoldable pub firstLoose : ℕ → (ℕ → Bool) → ℕ
 firstLoose n reached = first n (λ c. not (eqb c 0 || reached c))
 
+-- the card is on one of two chains, on one of three
+abbrev pub onTwo : List ℕ → List ℕ → ℕ → Bool
+onTwo people steps c = member people c || member steps c
+
+abbrev pub onThree : List ℕ → List ℕ → List ℕ → ℕ → Bool
+onThree people steps rules c = onTwo people steps c || member rules c
+
 -- refuse at the card of l whose number i is, where it is the number of one
 abbrev pub unlessAt : List ℕ → ℕ → ℕ → Read → Read
 unlessAt l i f next = unless (ltb i (length l)) f (getD l i 0) next
@@ -96,29 +84,36 @@ checked s n people steps rules =
     unlessAt people (firstClash (length people) (sameTag s people)) tagFault
     (unlessAt steps (firstClash (length steps) (sameTag s steps)) tagFault
     (unlessAt people (firstClash (length people) (benchMoved s people)) benchFault
-    (let c : ℕ = firstLoose n (λ c. member c people || member c steps || member c rules) in
+    (let c : ℕ = firstLoose n (onThree people steps rules) in
     unless (ltb c n) looseFault c (job people steps rules))))
+
+-- the walks of a sheet s of n cards: along the people chain, the steps chain when the people are known, and the rules chain when there
+-- are count steps
+abbrev pub peopleWalk : List ℕ → ℕ → Walked
+peopleWalk s n = walk (chainOf s n personKind 0 (λ c. false)) mostPeople [] 0 (firstPerson s)
+
+abbrev pub stepsWalk : List ℕ → ℕ → List ℕ → Walked
+stepsWalk s n people = walk (chainOf s n stepKind 0 (member people)) mostSteps [] 0 (firstStep s)
+
+abbrev pub rulesWalk : List ℕ → ℕ → List ℕ → List ℕ → ℕ → Walked
+rulesWalk s n people steps count = walk (chainOf s n ruleKind count (onTwo people steps)) mostRules [] 0 (firstRule s)
 
 -- what follows the steps chain. "'None' is tested when a chain ends."
 unfoldable pub stepsRead : List ℕ → ℕ → List ℕ → List ℕ → Read
 stepsRead s n people steps =
     unless (isEmpty steps) countFault 0
     (unlessAt people (firstLate s (length steps) people) fieldFault
-    (along (walk (chainOf s n ruleKind (length steps) (λ c. member c people || member c steps)) mostRules [] 0 (firstRule s))
-    (λ rules. checked s n people steps rules)))
+    (along (rulesWalk s n people steps (length steps)) (λ rules. checked s n people steps rules)))
 
 -- what follows the people chain
 unfoldable pub peopleRead : List ℕ → ℕ → List ℕ → Read
 peopleRead s n people =
     unless (isEmpty people) countFault 0
-    (along (walk (chainOf s n stepKind 0 (λ c. member c people)) mostSteps [] 0 (firstStep s))
-    (λ steps. stepsRead s n people steps))
+    (along (stepsWalk s n people) (λ steps. stepsRead s n people steps))
 
 -- "Order: 2, 3, 4; people, steps, rules chain."
 unfoldable pub readPeople : List ℕ → ℕ → Read
-readPeople s n =
-    along (walk (chainOf s n personKind 0 (λ c. false)) mostPeople [] 0 (firstPerson s))
-    (λ people. peopleRead s n people)
+readPeople s n = along (peopleWalk s n) (λ people. peopleRead s n people)
 
 unfoldable pub readSheet : List ℕ → Read
 readSheet s =

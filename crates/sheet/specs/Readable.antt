@@ -1,24 +1,24 @@
 -- What is known of a sheet that was read: of its cards, and of its job. The second is all that the crates above know of a job.
 -- Assumes nothing.
-use mathlib.Core.Bool.{false, true, _||_}
+use mathlib.Core.Bool.{false, true}
 use mathlib.Core.List.{List, _++_}
 use mathlib.Core.Path.{_≡_}
 use Prim.Native.Nat.{ℕ, _/_, _^_, _<_, _≤_}
 use lib.ListN.{length, getD}
+use Rattle.bits.specs.Member.{member}
 use Rattle.card.specs.Layout.{personKind, stepKind, ruleKind}
 use Rattle.card.specs.Fields.{firstPerson, firstStep, firstRule, limitOk, scopeSize}
-use Rattle.chain.specs.Walk.{member}
 use Rattle.chain.specs.Answer.{chainOf}
 use Rattle.chain.specs.Chained.{Chained}
 use Rattle.sheet.specs.Answer.{jobOf}
-use Rattle.sheet.specs.Read.{job, readSheet}
-use Rattle.sheet.specs.declared.Job.{Job}
+use Rattle.sheet.specs.Read.{job, onTwo, readSheet}
+use Rattle.sheet.specs.declared.SheetJob.{SheetJob}
 
 -- "Every card of the file hangs on one chain; only the header is on all three, as their start": the chains of a sheet s of n cards
 pub record Chains (s : List ℕ) (n : ℕ) (people steps rules : List ℕ) : Type 0 where
   pub people-chain : Chained (chainOf s n personKind 0 (λ c. false)) 64 (firstPerson s) people
-  pub steps-chain : Chained (chainOf s n stepKind 0 (λ c. member c people)) 12 (firstStep s) steps
-  pub rules-chain : Chained (chainOf s n ruleKind (length steps) (λ c. member c people || member c steps)) 64 (firstRule s) rules
+  pub steps-chain : Chained (chainOf s n stepKind 0 (member people)) 12 (firstStep s) steps
+  pub rules-chain : Chained (chainOf s n ruleKind (length steps) (onTwo people steps)) 64 (firstRule s) rules
   -- every card but the header is there, so every rule card is, the last one too
   pub covered : (c : ℕ) → 0 < c → c < n → (k : ℕ) × (k < length (people ++ steps ++ rules)) × (getD (people ++ steps ++ rules) k 0 ≡ c)
   -- and none is there twice
@@ -29,14 +29,14 @@ pub record Chains (s : List ℕ) (n : ℕ) (people steps rules : List ℕ) : Typ
   pub some : (k : ℕ) → k < length (people ++ steps ++ rules) → 0 < getD (people ++ steps ++ rules) k 0
 
 -- the fields of person p
-pub record PersonOk (steps : ℕ) (j : Job) (p : ℕ) : Type 0 where
+pub record PersonFields (steps : ℕ) (j : SheetJob) (p : ℕ) : Type 0 where
   pub tag : 0 < getD (j .«person_tag») p 0
   pub shop : 0 < getD (j .shop) p 0
   pub bench : 0 < getD (j .bench) p 0
   pub permitted : getD (j .permitted) p 0 < 2 ^ steps
 
 -- the fields of rule i
-pub record RuleOk (steps : ℕ) (j : Job) (i : ℕ) : Type 0 where
+pub record RuleFields (steps : ℕ) (j : SheetJob) (i : ℕ) : Type 0 where
   pub level-from : 1 ≤ getD (j .«rule_level») i 0
   pub level-to : getD (j .«rule_level») i 0 ≤ 3
   pub scope : getD (j .«rule_scope») i 0 < 2 ^ steps
@@ -44,7 +44,7 @@ pub record RuleOk (steps : ℕ) (j : Job) (i : ℕ) : Type 0 where
   pub limit : limitOk (getD (j .«rule_kind») i 0) (getD (j .«rule_limit») i 0) (scopeSize (getD (j .«rule_scope») i 0)) ≡ true
 
 -- the arrays have their sizes
-pub record Sized (j : Job) : Type 0 where
+pub record JobSized (j : SheetJob) : Type 0 where
   pub person-tag : length (j .«person_tag») ≡ 64
   pub step-tag : length (j .«step_tag») ≡ 12
   pub shop : length (j .shop) ≡ 64
@@ -56,16 +56,16 @@ pub record Sized (j : Job) : Type 0 where
   pub limit : length (j .«rule_limit») ≡ 64
 
 -- a job as a readable sheet gives it
-pub record ReadableJob (people steps rules : ℕ) (j : Job) : Type 0 where
+pub record ReadableJob (people steps rules : ℕ) (j : SheetJob) : Type 0 where
   pub people-some : 1 ≤ people
   pub people-most : people ≤ 64
   pub steps-some : 1 ≤ steps
   pub steps-most : steps ≤ 12
   pub rules-most : rules ≤ 64
-  pub sized : Sized j
-  pub person : (p : ℕ) → p < people → PersonOk steps j p
+  pub sized : JobSized j
+  pub person : (p : ℕ) → p < people → PersonFields steps j p
   pub step-tag : (t : ℕ) → t < steps → 0 < getD (j .«step_tag») t 0
-  pub rule : (i : ℕ) → i < rules → RuleOk steps j i
+  pub rule : (i : ℕ) → i < rules → RuleFields steps j i
   -- tags differ
   pub person-tags : (p q : ℕ) → p < q → q < people → getD (j .«person_tag») p 0 ≡ getD (j .«person_tag») q 0 → ⊥
   pub step-tags : (t u : ℕ) → t < u → u < steps → getD (j .«step_tag») t 0 ≡ getD (j .«step_tag») u 0 → ⊥
@@ -73,7 +73,7 @@ pub record ReadableJob (people steps rules : ℕ) (j : Job) : Type 0 where
   pub nested : (p q : ℕ) → p < people → q < people → getD (j .bench) p 0 ≡ getD (j .bench) q 0 → getD (j .shop) p 0 ≡ getD (j .shop) q 0
 
 -- what is known where the reader gives counts, of the sheet s and of the job j beside them
-pub record ReadSheet (s : List ℕ) (people steps rules : ℕ) (j : Job) : Type 0 where
+pub record ReadSheet (s : List ℕ) (people steps rules : ℕ) (j : SheetJob) : Type 0 where
   pub person-cards : List ℕ
   pub step-cards : List ℕ
   pub rule-cards : List ℕ

@@ -4,10 +4,14 @@ ghost use mathlib.Core.Path.{_≡_};
 ghost use Prim.Native.Nat.{_+_, _<_, _≤_};
 ghost use lib.ListN.{length};
 ghost use Rattle.bits.specs.Below.{any};
+ghost use Rattle.bits.specs.Slots.{FirstOfSlot};
 ghost use Rattle.sheet.specs.Cards.{equalAt, movedAt};
 ghost use Rattle.sheet.specs.Read.{firstClash};
-ghost use Rattle.sheet.specs.Slots.{Marked, Firsts, Unmoved};
-use crate::slots::first_there;
+ghost use Rattle.sheet.specs.Slots.{SlotsMarked, Unmoved};
+use bits::sizes::PersonWords;
+use bits::sizes::SLOTS;
+use bits::sizes::SlotPeople;
+use bits::slots::first_there;
 
 // Whether the tag at `k` stands at an earlier place too.
 fn tag_stood(tags: &[u32], k: usize) -> bool
@@ -25,11 +29,11 @@ fn tag_stood(tags: &[u32], k: usize) -> bool
 }
 
 // The same where the slots of the tags before `k` are marked; marks the slot of `k` too.
-fn tag_again(tags: &[u32], k: usize, marks: &mut [bool; 1024]) -> bool
-    requires { ⌜ (k < length (now tags)) × Marked (now tags) k (now marks) ⌝ }
-    ensures { λ r. ⌜ (r ≡ any k (λ j. equalAt (now (tags .entry)) j k)) × Marked (now (tags .entry)) (k + 1) (now (marks .exit)) ⌝ }
+fn tag_again(tags: &[u32], k: usize, marks: &mut [bool; SLOTS]) -> bool
+    requires { ⌜ (k < length (now tags)) × SlotsMarked (now tags) k (now marks) ⌝ }
+    ensures { λ r. ⌜ (r ≡ any k (λ j. equalAt (now (tags .entry)) j k)) × SlotsMarked (now (tags .entry)) (k + 1) (now (marks .exit)) ⌝ }
 {
-    let slot = (tags[k] % 1024) as usize;
+    let slot = (tags[k] % SLOTS as u32) as usize;
     if marks[slot] {
         return tag_stood(tags, k);
     }
@@ -42,7 +46,7 @@ pub fn tag_clash(tags: &[u32], count: usize) -> usize
     requires { ⌜ count ≤ length (now tags) ⌝ }
     ensures { λ r. ⌜ r ≡ firstClash count (equalAt (now (tags .entry))) ⌝ }
 {
-    let mut marks = [false; 1024];
+    let mut marks = [false; SLOTS];
     let mut k = 0;
     while k < count {
         if tag_again(tags, k, &mut marks) {
@@ -54,7 +58,7 @@ pub fn tag_clash(tags: &[u32], count: usize) -> usize
 }
 
 // Whether the bench at `k` stands at an earlier place with another shop.
-fn bench_stood(benches: &[u16; 64], shops: &[u16; 64], k: usize) -> bool
+fn bench_stood(benches: &PersonWords, shops: &PersonWords, k: usize) -> bool
     requires { ⌜ (k < 64) × (length (now benches) ≡ 64) × (length (now shops) ≡ 64) ⌝ }
     ensures { λ r. ⌜ r ≡ any k (λ j. movedAt (now (benches .entry)) (now (shops .entry)) j k) ⌝ }
 {
@@ -70,9 +74,14 @@ fn bench_stood(benches: &[u16; 64], shops: &[u16; 64], k: usize) -> bool
 }
 
 // The same where no bench before `k` did so, with the first person of each slot.
-fn bench_again(benches: &[u16; 64], shops: &[u16; 64], k: usize, firsts: &mut [u8; 1024]) -> bool
-    requires { ⌜ (k < 64) × (length (now benches) ≡ 64) × (length (now shops) ≡ 64) × Unmoved (now benches) (now shops) k × Firsts (now benches) k (now firsts) ⌝ }
-    ensures { λ r. ⌜ (r ≡ any k (λ j. movedAt (now (benches .entry)) (now (shops .entry)) j k)) × Firsts (now (benches .entry)) (k + 1) (now (firsts .exit)) ⌝ }
+fn bench_again(
+    benches: &PersonWords,
+    shops: &PersonWords,
+    k: usize,
+    firsts: &mut SlotPeople,
+) -> bool
+    requires { ⌜ (k < 64) × (length (now benches) ≡ 64) × (length (now shops) ≡ 64) × Unmoved (now benches) (now shops) k × FirstOfSlot (now benches) k (now firsts) ⌝ }
+    ensures { λ r. ⌜ (r ≡ any k (λ j. movedAt (now (benches .entry)) (now (shops .entry)) j k)) × FirstOfSlot (now (benches .entry)) (k + 1) (now (firsts .exit)) ⌝ }
 {
     let j = first_there(benches, k, firsts);
     if (benches[j] == benches[k]) & (shops[j] == shops[k]) {
@@ -82,11 +91,11 @@ fn bench_again(benches: &[u16; 64], shops: &[u16; 64], k: usize, firsts: &mut [u
 }
 
 // The first of `count` people whose bench stood earlier with another shop; `count` where there is none.
-pub fn bench_clash(benches: &[u16; 64], shops: &[u16; 64], count: usize) -> usize
+pub fn bench_clash(benches: &PersonWords, shops: &PersonWords, count: usize) -> usize
     requires { ⌜ (count ≤ 64) × (length (now benches) ≡ 64) × (length (now shops) ≡ 64) ⌝ }
     ensures { λ r. ⌜ r ≡ firstClash count (movedAt (now (benches .entry)) (now (shops .entry))) ⌝ }
 {
-    let mut firsts = [0u8; 1024];
+    let mut firsts = [0u8; SLOTS];
     let mut k = 0;
     while k < count {
         if bench_again(benches, shops, k, &mut firsts) {

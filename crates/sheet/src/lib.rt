@@ -2,8 +2,16 @@
 ghost use mathlib.Core.Path.{_≡_};
 ghost use Rattle.sheet.specs.Answer.{sheetOf};
 ghost use Rattle.sheet.specs.Read.{lengthOk};
-use card::CARD;
+use bits::sizes::CARD;
+use bits::sizes::MOST_BYTES;
+use bits::sizes::MOST_PEOPLE;
+use bits::sizes::MOST_RULES;
+use bits::sizes::MOST_STEPS;
+use bits::sizes::PersonWords;
+use bits::sizes::RuleBytes;
 use card::fields::header_ok;
+use card::refusal::HEADER_FAULT;
+use card::refusal::LENGTH_FAULT;
 use read::read_people;
 use read::refused;
 
@@ -11,39 +19,19 @@ mod clash;
 mod late;
 mod loose;
 mod read;
-pub mod slots;
 mod tables;
 
-pub const MOST_PEOPLE: usize = 64;
-
-pub const MOST_STEPS: usize = 12;
-
-pub const MOST_RULES: usize = 64;
-
-pub const MOST_BYTES: usize = 2256;
-
-// The refusals of a whole sheet; those of a chain are in `chain`.
-pub const LENGTH_FAULT: u32 = 3;
-
-pub const HEADER_FAULT: u32 = 4;
-
-pub const TAG_FAULT: u32 = 10;
-
-pub const BENCH_FAULT: u32 = 11;
-
-pub const LOOSE_FAULT: u32 = 12;
-
 // The job that a sheet describes: people, steps and rules along their chains, zeros after the last.
-pub struct Job {
-    pub person_tag: [u32; 64],
-    pub step_tag: [u32; 12],
-    pub shop: [u16; 64],
-    pub bench: [u16; 64],
-    pub permitted: [u16; 64],
-    pub rule_scope: [u16; 64],
-    pub rule_kind: [u8; 64],
-    pub rule_level: [u8; 64],
-    pub rule_limit: [u8; 64],
+pub struct SheetJob {
+    pub person_tag: [u32; MOST_PEOPLE],
+    pub step_tag: [u32; MOST_STEPS],
+    pub shop: PersonWords,
+    pub bench: PersonWords,
+    pub permitted: PersonWords,
+    pub rule_scope: [u16; MOST_RULES],
+    pub rule_kind: RuleBytes,
+    pub rule_level: RuleBytes,
+    pub rule_limit: RuleBytes,
 }
 
 pub enum Reading {
@@ -61,7 +49,7 @@ pub enum Reading {
 // The reader's answer, and the job's arrays beside it: all zeros with a refusal.
 pub struct Sheet {
     pub reading: Reading,
-    pub job: Job,
+    pub job: SheetJob,
 }
 
 // Whether a length is one that a sheet may have.

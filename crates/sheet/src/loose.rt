@@ -4,9 +4,10 @@ ghost use Prim.Native.Nat.{_<_, _≤_};
 ghost use lib.ListN.{length};
 ghost use Rattle.chain.specs.Answer.{marked};
 ghost use Rattle.sheet.specs.Read.{firstLoose};
+use bits::sizes::CardMarks;
 
 // The lowest of `cards` cards that is not marked, the header apart; `cards` where all are.
-pub fn first_loose(marks: &[bool; 141], cards: usize) -> usize
+pub fn first_loose(marks: &CardMarks, cards: usize) -> usize
     requires { ⌜ (0 < cards) × (cards ≤ 141) × (length (now marks) ≡ 141) ⌝ }
     ensures { λ r. ⌜ r ≡ firstLoose cards (marked (now (marks .entry))) ⌝ }
 {

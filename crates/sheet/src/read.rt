@@ -1,22 +1,15 @@
 // Reading a sheet chain by chain. Each function reads on from what is known, and answers for the whole sheet.
-ghost use mathlib.Core.Bool.{_||_};
 ghost use mathlib.Core.List.{List};
 ghost use mathlib.Core.Path.{_≡_};
 ghost use Prim.Native.Nat.{ℕ, _*_, _<_, _≤_};
 ghost use lib.ListN.{length, take};
-ghost use Rattle.chain.specs.Walk.{member};
+ghost use Rattle.bits.specs.Member.{member};
 ghost use Rattle.sheet.specs.Answer.{answer, jobOf};
 ghost use Rattle.sheet.specs.Cards.{Listing, Marking};
-ghost use Rattle.sheet.specs.Read.{fault, checked, readPeople, peopleRead, stepsRead};
-use crate::BENCH_FAULT;
-use crate::Job;
-use crate::LOOSE_FAULT;
-use crate::MOST_PEOPLE;
-use crate::MOST_RULES;
-use crate::MOST_STEPS;
+ghost use Rattle.sheet.specs.Read.{fault, onTwo, onThree, checked, readPeople, peopleRead, stepsRead};
 use crate::Reading;
 use crate::Sheet;
-use crate::TAG_FAULT;
+use crate::SheetJob;
 use crate::clash::bench_clash;
 use crate::clash::tag_clash;
 use crate::late::first_late;
@@ -24,13 +17,24 @@ use crate::loose::first_loose;
 use crate::tables::bytes;
 use crate::tables::tags;
 use crate::tables::words;
+use bits::sizes::CardList;
+use bits::sizes::CardMarks;
+use bits::sizes::MOST_CARDS;
+use bits::sizes::MOST_CHAIN;
+use bits::sizes::MOST_PEOPLE;
+use bits::sizes::MOST_RULES;
+use bits::sizes::MOST_STEPS;
 use card::fields::PERSON_KIND;
 use card::fields::RULE_KIND;
 use card::fields::STEP_KIND;
+use card::place;
+use card::refusal::BENCH_FAULT;
+use card::refusal::COUNT_FAULT;
+use card::refusal::FIELD_FAULT;
+use card::refusal::LOOSE_FAULT;
+use card::refusal::TAG_FAULT;
 use card::word;
-use chain::COUNT_FAULT;
 use chain::Ended;
-use chain::FIELD_FAULT;
 use chain::walk_chain;
 
 // The answer of a refusal.
@@ -39,16 +43,16 @@ pub fn refused(refusal: u32, card: usize) -> Sheet
 {
     Sheet {
         reading: Reading::Refused { refusal, card },
-        job: Job {
-            person_tag: [0; 64],
-            step_tag: [0; 12],
-            shop: [0; 64],
-            bench: [0; 64],
-            permitted: [0; 64],
-            rule_scope: [0; 64],
-            rule_kind: [0; 64],
-            rule_level: [0; 64],
-            rule_limit: [0; 64],
+        job: SheetJob {
+            person_tag: [0; MOST_PEOPLE],
+            step_tag: [0; MOST_STEPS],
+            shop: [0; MOST_PEOPLE],
+            bench: [0; MOST_PEOPLE],
+            permitted: [0; MOST_PEOPLE],
+            rule_scope: [0; MOST_RULES],
+            rule_kind: [0; MOST_RULES],
+            rule_level: [0; MOST_RULES],
+            rule_limit: [0; MOST_RULES],
         },
     }
 }
@@ -56,28 +60,28 @@ pub fn refused(refusal: u32, card: usize) -> Sheet
 // The arrays of the job.
 fn fill_job(
     s: &[u8],
-    people: &[u8; 64],
+    people: &CardList,
     p: usize,
-    steps: &[u8; 64],
+    steps: &CardList,
     n: usize,
-    rules: &[u8; 64],
+    rules: &CardList,
     r: usize,
-) -> Job
+) -> SheetJob
     requires { ⌜ Listing (now s) (now people) p × Listing (now s) (now steps) n × (n ≤ 12) × Listing (now s) (now rules) r ⌝ }
     ensures { λ j. ⌜ j ≡ jobOf (now (s .entry)) (take p (now (people .entry))) (take n (now (steps .entry))) (take r (now (rules .entry))) ⌝ }
 {
-    let mut person_tag = [0u32; 64];
+    let mut person_tag = [0u32; MOST_PEOPLE];
     tags(s, people, p, &mut person_tag);
-    let mut step_tag = [0u32; 12];
+    let mut step_tag = [0u32; MOST_STEPS];
     tags(s, steps, n, &mut step_tag);
-    let shop = words(s, people, p, 8);
-    let bench = words(s, people, p, 10);
-    let permitted = words(s, people, p, 12);
-    let rule_scope = words(s, rules, r, 6);
-    let rule_kind = bytes(s, rules, r, 1);
-    let rule_level = bytes(s, rules, r, 4);
-    let rule_limit = bytes(s, rules, r, 5);
-    Job {
+    let shop = words(s, people, p, place::SHOP);
+    let bench = words(s, people, p, place::BENCH);
+    let permitted = words(s, people, p, place::PERMITTED);
+    let rule_scope = words(s, rules, r, place::SCOPE);
+    let rule_kind = bytes(s, rules, r, place::RULE);
+    let rule_level = bytes(s, rules, r, place::LEVEL);
+    let rule_limit = bytes(s, rules, r, place::LIMIT);
+    SheetJob {
         person_tag,
         step_tag,
         shop,
@@ -94,15 +98,15 @@ fn fill_job(
 fn after_rules(
     s: &[u8],
     cards: usize,
-    marks: &[bool; 141],
-    people: &[u8; 64],
+    marks: &CardMarks,
+    people: &CardList,
     p: usize,
-    steps: &[u8; 64],
+    steps: &CardList,
     n: usize,
-    rules: &[u8; 64],
+    rules: &CardList,
     r: usize,
 ) -> Sheet
-    requires { ⌜ Listing (now s) (now people) p × Listing (now s) (now steps) n × (n ≤ 12) × Listing (now s) (now rules) r × Marking (now s) cards (now marks) (λ c. member c (take p (now people)) || member c (take n (now steps)) || member c (take r (now rules))) ⌝ }
+    requires { ⌜ Listing (now s) (now people) p × Listing (now s) (now steps) n × (n ≤ 12) × Listing (now s) (now rules) r × Marking (now s) cards (now marks) (onThree (take p (now people)) (take n (now steps)) (take r (now rules))) ⌝ }
     ensures { λ a. ⌜ a ≡ answer (now (s .entry)) (checked (now (s .entry)) cards (take p (now (people .entry))) (take n (now (steps .entry))) (take r (now (rules .entry)))) ⌝ }
 {
     let job = fill_job(s, people, p, steps, n, rules, r);
@@ -140,13 +144,13 @@ fn after_rules(
 fn after_steps(
     s: &[u8],
     cards: usize,
-    marks: &mut [bool; 141],
-    people: &[u8; 64],
+    marks: &mut CardMarks,
+    people: &CardList,
     p: usize,
-    steps: &[u8; 64],
+    steps: &CardList,
     n: usize,
 ) -> Sheet
-    requires { ⌜ Listing (now s) (now people) p × Listing (now s) (now steps) n × (n ≤ 12) × Marking (now s) cards (now marks) (λ c. member c (take p (now people)) || member c (take n (now steps))) ⌝ }
+    requires { ⌜ Listing (now s) (now people) p × Listing (now s) (now steps) n × (n ≤ 12) × Marking (now s) cards (now marks) (onTwo (take p (now people)) (take n (now steps))) ⌝ }
     ensures { λ a. ⌜ a ≡ answer (now (s .entry)) (stepsRead (now (s .entry)) cards (take p (now (people .entry))) (take n (now (steps .entry)))) ⌝ }
 {
     if n == 0 {
@@ -156,8 +160,8 @@ fn after_steps(
     if late < p {
         return refused(FIELD_FAULT, people[late] as usize);
     }
-    let mut rules = [0u8; 64];
-    let first = word(s, 0, 8);
+    let mut rules = [0u8; MOST_CHAIN];
+    let first = word(s, 0, place::FIRST_RULE);
     let ended = walk_chain(s, cards, RULE_KIND, n, MOST_RULES, first, marks, &mut rules);
     match ended {
         Ended::Refused(refusal, card) => refused(refusal, card),
@@ -166,21 +170,15 @@ fn after_steps(
 }
 
 // The steps chain: reads on when the people are listed.
-fn after_people(
-    s: &[u8],
-    cards: usize,
-    marks: &mut [bool; 141],
-    people: &[u8; 64],
-    p: usize,
-) -> Sheet
-    requires { ⌜ Listing (now s) (now people) p × Marking (now s) cards (now marks) (λ c. member c (take p (now people))) ⌝ }
+fn after_people(s: &[u8], cards: usize, marks: &mut CardMarks, people: &CardList, p: usize) -> Sheet
+    requires { ⌜ Listing (now s) (now people) p × Marking (now s) cards (now marks) (member (take p (now people))) ⌝ }
     ensures { λ a. ⌜ a ≡ answer (now (s .entry)) (peopleRead (now (s .entry)) cards (take p (now (people .entry)))) ⌝ }
 {
     if p == 0 {
         return refused(COUNT_FAULT, 0);
     }
-    let mut steps = [0u8; 64];
-    let first = word(s, 0, 6);
+    let mut steps = [0u8; MOST_CHAIN];
+    let first = word(s, 0, place::FIRST_STEP);
     let ended = walk_chain(s, cards, STEP_KIND, 0, MOST_STEPS, first, marks, &mut steps);
     match ended {
         Ended::Refused(refusal, card) => refused(refusal, card),
@@ -193,9 +191,9 @@ pub fn read_people(s: &[u8], cards: usize) -> Sheet
     requires { ⌜ (16 * cards ≤ length (now s)) × (0 < cards) × (cards ≤ 141) ⌝ }
     ensures { λ a. ⌜ a ≡ answer (now (s .entry)) (readPeople (now (s .entry)) cards) ⌝ }
 {
-    let mut marks = [false; 141];
-    let mut people = [0u8; 64];
-    let first = word(s, 0, 4);
+    let mut marks = [false; MOST_CARDS];
+    let mut people = [0u8; MOST_CHAIN];
+    let first = word(s, 0, place::FIRST_PERSON);
     let ended = walk_chain(
         s,
         cards,

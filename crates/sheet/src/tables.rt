@@ -1,21 +1,23 @@
 // The job's arrays, filled from the cards of a chain.
-ghost use mathlib.Core.List.{_++_};
 ghost use mathlib.Core.Path.{_≡_};
-ghost use Prim.Native.Nat.{ℕ, _+_, _*_, _<_, _≤_};
-ghost use lib.ListN.{length, getD, take, replicate};
+ghost use Prim.Native.Nat.{_+_, _<_, _≤_};
+ghost use lib.ListN.{length, take, replicate};
 ghost use Rattle.card.specs.Layout.{cardByte, cardWord, cardLong};
 ghost use Rattle.sheet.specs.Answer.{table};
 ghost use Rattle.sheet.specs.Cards.{Listing};
+use bits::sizes::CardList;
+use bits::sizes::MOST_CHAIN;
 use card::byte;
 use card::long;
+use card::place::TAG;
 use card::word;
 
 // The bytes at `at` of the first `count` cards of a list.
-pub fn bytes(s: &[u8], list: &[u8; 64], count: usize, at: usize) -> [u8; 64]
+pub fn bytes(s: &[u8], list: &CardList, count: usize, at: usize) -> [u8; MOST_CHAIN]
     requires { ⌜ Listing (now s) (now list) count × (at < 16) ⌝ }
     ensures { λ r. ⌜ r ≡ table 64 (λ c. cardByte (now (s .entry)) c at) (take count (now (list .entry))) ⌝ }
 {
-    let mut out = [0u8; 64];
+    let mut out = [0u8; MOST_CHAIN];
     let mut k = 0;
     while k < count {
         out[k] = byte(s, list[k] as usize, at) as u8;
@@ -25,11 +27,11 @@ pub fn bytes(s: &[u8], list: &[u8; 64], count: usize, at: usize) -> [u8; 64]
 }
 
 // The words at `at` of the first `count` cards of a list.
-pub fn words(s: &[u8], list: &[u8; 64], count: usize, at: usize) -> [u16; 64]
+pub fn words(s: &[u8], list: &CardList, count: usize, at: usize) -> [u16; MOST_CHAIN]
     requires { ⌜ Listing (now s) (now list) count × (at < 15) ⌝ }
     ensures { λ r. ⌜ r ≡ table 64 (λ c. cardWord (now (s .entry)) c at) (take count (now (list .entry))) ⌝ }
 {
-    let mut out = [0u16; 64];
+    let mut out = [0u16; MOST_CHAIN];
     let mut k = 0;
     while k < count {
         out[k] = word(s, list[k] as usize, at) as u16;
@@ -39,13 +41,13 @@ pub fn words(s: &[u8], list: &[u8; 64], count: usize, at: usize) -> [u16; 64]
 }
 
 // The tags of the first `count` cards of a list, into an array of zeros.
-pub fn tags(s: &[u8], list: &[u8; 64], count: usize, out: &mut [u32])
+pub fn tags(s: &[u8], list: &CardList, count: usize, out: &mut [u32])
     requires { ⌜ Listing (now s) (now list) count × (count ≤ length (now out)) × (now out ≡ replicate (length (now out)) 0) ⌝ }
     ensures { λ _. ⌜ now (out .exit) ≡ table (length (now (out .entry))) (λ c. cardLong (now (s .entry)) c 4) (take count (now (list .entry))) ⌝ }
 {
     let mut k = 0;
     while k < count {
-        out[k] = long(s, list[k] as usize, 4) as u32;
+        out[k] = long(s, list[k] as usize, TAG) as u32;
         k += 1;
     }
 }

@@ -13,11 +13,11 @@ use borrow.Author.Tests.{eq-eqb, ne-eqb}
 use Rattle.bits.specs.Below.{first}
 use Rattle.bits.proofs.Below.{below-suc, first-le, first-unique}
 use Rattle.pattern.specs.Tables.{classIn}
-use Rattle.sheet.specs.Slots.{Foremost}
+use Rattle.bits.specs.Slots.{NoneBefore}
 use Rattle.tables.specs.Arrays.{ClassesOf, firstWith}
 
 -- where the first person of a slot has the number of somebody there, nobody before has it
-pub leads : (numbers : List ℕ) (people p r : ℕ) → p < people → Foremost numbers p r → getD numbers r 0 ≡ getD numbers p 0 → r ≡ firstWith numbers people p
+pub leads : (numbers : List ℕ) (people p r : ℕ) → p < people → NoneBefore numbers p r → getD numbers r 0 ≡ getD numbers p 0 → r ≡ firstWith numbers people p
 leads numbers people p r l w e =
     sym
     (first-unique people (λ q. eqb (getD numbers q 0) (getD numbers p 0)) r (omega (arith, w .within)) (λ h. eq-eqb _ _ e)

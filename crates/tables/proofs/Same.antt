@@ -15,22 +15,23 @@ use Rattle.bits.specs.Word.{hasBit}
 use Rattle.bits.proofs.Below.{first-cong, first-has, first-none, first-unique, below-suc, by-cases, true-false}
 use Rattle.bits.proofs.Counting.{bool-ext, count-le}
 use Rattle.sheet.specs.Readable.{ReadableJob}
-use Rattle.sheet.specs.declared.Job as sheet
+use Rattle.sheet.specs.declared.SheetJob as sheet
 use Rattle.workflow.specs.Problem.{Kind, same, different, atMost, atLeast, Fits, Job, RuleOk, leastOf, mostOf}
 use Rattle.workflow.specs.Numbered.{kindIn}
 use Rattle.workflow.specs.Same.{Renamed}
 use Rattle.workflow.proofs.Same.{renamed-same, same-trans}
 use Rattle.pattern.specs.declared.Size.{Size}
-use Rattle.pattern.specs.Given.{Ruled, Given}
+use Rattle.pattern.specs.Given.{Ruled, Classed}
 use Rattle.pattern.specs.Pattern.{Refining}
 use Rattle.pattern.specs.Realize.{leader}
 use Rattle.pattern.specs.Rule.{levelIn, scopeIn}
 use Rattle.pattern.specs.Tables.{classIn, mayIn, ruleIn, jobIn}
+use Rattle.levels.specs.declared.Tables.{Tables}
 use Rattle.levels.specs.Trims.{Trims}
 use Rattle.instance.specs.Instance.{instanceOf, mayOf}
 use Rattle.instance.proofs.Laws.{instance-nested, instance-fits, instance-rules}
 use Rattle.tables.specs.Arrays.{MasksOf, ClassesOf, firstWith}
-use Rattle.tables.specs.Posing.{Packable, Packs, PackedRules, Poses}
+use Rattle.tables.specs.Posing.{Packable, Packs, PackedRules, Poses, Permits}
 
 -- the first person with p's number is one of the people, and has it
 module _ (numbers : List ℕ) (people : ℕ) where
@@ -57,23 +58,22 @@ limit-fits different limit size f = omega arith
 limit-fits atMost limit size f = f .2
 limit-fits atLeast limit size f = f .2
 
-pub packable : (people steps rules : ℕ) (j : sheet.Job) → ReadableJob people steps rules j → Packable steps rules j
+pub packable : (people steps rules : ℕ) (j : sheet.SheetJob) → ReadableJob people steps rules j → Packable steps rules (j .«rule_level») (j .«rule_limit»)
 packable people steps rules j r =
     record {
       few-steps = r .steps-most;
       few-rules = r .rules-most;
-      kinds = r .sized .kind;
       levels = r .sized .level;
       limits = r .sized .limit;
-      scopes = r .sized .scope;
-      level = λ i l. r .rule i l .level-to;
-      limit = λ i l.
+      small-level = λ i l. r .rule i l .level-to;
+      small-limit = λ i l.
           let f = limit-fits (kindIn (getD (j .«rule_kind») i 0)) (getD (j .«rule_limit») i 0) _ (instance-fits people steps rules j r i l) in
           omega (arith, count-le steps (hasBit (getD (j .«rule_scope») i 0)), r .steps-most);
     }
 
-module _ (people steps rules : ℕ) (j : sheet.Job) (r : ReadableJob people steps rules j)
-    (class : List ℕ) (c : ClassesOf (j .shop) (j .bench) people people class) (rule : List ℕ) (w : PackedRules steps rules (j .«rule_kind») (j .«rule_level») (j .«rule_limit») (j .«rule_scope») rule) where
+module _ (people steps rules : ℕ) (j : sheet.SheetJob) (r : ReadableJob people steps rules j)
+    (class : List ℕ) (c : ClassesOf (j .shop) (j .bench) people people class)
+    (rule : List ℕ) (w : PackedRules steps rules (j .«rule_kind») (j .«rule_level») (j .«rule_limit») (j .«rule_scope») rule) where
   abbrev size : Size
   size = record { steps = steps; people = people; levels = 3; rules = rules }
 
@@ -136,8 +136,8 @@ module _ (people steps rules : ℕ) (j : sheet.Job) (r : ReadableJob people step
         bounded = omega (arith, e .its-most, k .bounded);
       }
 
-  pub whole-given : Given size class rule
-  whole-given =
+  pub whole-classed : Classed size class rule
+  whole-classed =
       record {
         ruled = record {
           few-steps = r .steps-most;
@@ -170,15 +170,15 @@ module _ (people steps rules : ℕ) (j : sheet.Job) (r : ReadableJob people step
             );
       }
 
-  pub poses : {size′ : Size} {class′ crowd′ rule′ of′ may : List ℕ} → Trims size class rule size′ class′ crowd′ rule′ of′ → MasksOf (j .permitted) people steps may
-      → Poses people steps rules j size′ class′ crowd′ rule′ of′ may
-  poses t m =
-      record {
-        tabled = t .tabled;
-        masks = m .size;
-        same = same-trans (renamed-same asked posed renamed) (t .same);
-        permitted = λ s p l k. m .each s l .each p ∙ ap (λ (b : Bool). b && hasBit (getD (j .permitted) p 0) s) (lt-ltb p people k);
-      }
+  pub poses : {t : Tables} → Trims size class rule t → Poses people steps rules j t
+  poses t = record { ready = t .ready; same = same-trans (renamed-same asked posed renamed) (t .same) }
+
+pub permits : (people steps : ℕ) (j : sheet.SheetJob) {may : List ℕ} → steps ≤ 12 → MasksOf (j .permitted) people 12 may → Permits people steps j may
+permits people steps j few m =
+    record {
+      masks = m .size;
+      permitted = λ s p l k. m .each s (omega arith) .each p ∙ ap (λ (b : Bool). b && hasBit (getD (j .permitted) p 0) s) (lt-ltb p people k);
+    }
 
 -- kinds 0 and 1 are `same`, those from 4 on `at least`
 pub low-least : (kind limit : ℕ) → kind ≤ 1 → 1 ≡ leastOf (kindIn kind) limit

@@ -121,7 +121,8 @@ module _ (ok : List ℕ → Bool) (people n : ℕ) (xs : List ℕ) where
           let is : planOf ys (length xs) ≡ p = next-is p ys (a .0) in (
             widen p ys (a .0),
             λ zs c d.
-                below-suc p (planOf zs (length xs)) (let m : planOf zs (length xs) ≤ planOf ys (length xs) = earlier-next n (length xs) (planOf zs) (planOf ys) d (λ s b. c .extends s b ∙ sym (widen p ys (a .0) .extends s b)) in omega arith)
+                let m : planOf zs (length xs) ≤ planOf ys (length xs) = earlier-next n (length xs) (planOf zs) (planOf ys) d (λ s b. c .extends s b ∙ sym (widen p ys (a .0) .extends s b)) in
+                below-suc p (planOf zs (length xs)) (omega arith)
                 (λ b. missed _ (c .within (length xs) l) (w .before _ b) zs c refl)
                 (λ e. a .1 zs (narrow p zs c e) d),
           )

@@ -58,8 +58,8 @@ abbrev pub classCount : Job → Rule → Plan → ℕ
 classCount j r π = distinct (j .steps) (r .scope) (λ s. j .class (r .level) (π s))
 
 -- how many steps the scope has
-abbrev pub scopeSize : ℕ → Rule → ℕ
-scopeSize steps r = count steps (r .scope)
+abbrev pub scopeCount : ℕ → Rule → ℕ
+scopeCount steps r = count steps (r .scope)
 
 -- "Kind 1, same: .. count 1"; "Kind 2, different: .. count 2"; "Kind 3, at most: .. count not above the limit"; "Kind 4, at least: .. count
 -- not below the limit": of kind, limit and count
@@ -131,7 +131,7 @@ Fits atLeast limit size = (2 ≤ size) × (1 ≤ limit) × (limit ≤ size)
 pub record RuleOk (steps levels : ℕ) (r : Rule) : Type 0 where
   pub from : 1 ≤ r .level
   pub to : r .level ≤ levels
-  pub reachable : r .least ≤ scopeSize steps r
+  pub reachable : r .least ≤ scopeCount steps r
   pub bounded : r .most ≤ steps
 
 -- the scope is {s, t}, as in the document's (s, s′, ∼)

@@ -13,7 +13,7 @@ propagate-requires : tie.Need-propagate-requires
 propagate-requires c κs = search needs
 
 returns : tie.Need-returns
-returns c = (narrowed-lost _ _ _ _ _ _ (c .before .propagate .ensures) (not-true _ (c .if1 .taken)), c .before .before .before .before .before .before .pre .2)
+returns c = let p = c .before in (narrowed-lost _ _ (p .propagate .ensures) (not-true _ (c .if1 .taken)), p .before .before .before .before .before .pre .2)
 
 below-requires-2 : tie.Need-below-requires-2
 below-requires-2 c κs = search needs
@@ -22,14 +22,12 @@ extend-requires : tie.Need-extend-requires
 extend-requires c κs =
     let p = c .before .before .before .before .before in
     let q = p .before .before .before .before .before .pre in
-    (q .0, p .propagate .ensures .fewer .sized, q .2, all-alone _ _ _ (c .before .before .before .below2 .ensures))
+    (q .0, p .propagate .ensures .fewer .sized, q .2, all-alone (c .before .before .before .below2 .ensures))
 
 returns-2 : tie.Need-returns-2
 returns-2 c =
-    let p = c .before .before .before .before .before .before in
-    (narrowed-trial _ _ _ _ _ _ (p .propagate .ensures) (not-false _ (c .before .before .before .before .before .if1 .left)) _ (c .extend .ensures .0), c .extend .ensures .1)
+    let e = c .before .before .before .before .before in
+    (narrowed-trial _ _ (e .before .propagate .ensures) (not-false _ (e .if1 .left)) _ (c .extend .ensures .0), c .extend .ensures .1)
 
 pub attempt-spec : {M : Type 1} → statement M
-attempt-spec =
-    tie.close
-    (tie.spec below-requires propagate-requires returns below-requires-2 extend-requires returns-2)
+attempt-spec = tie.close (tie.spec below-requires propagate-requires returns below-requires-2 extend-requires returns-2)

@@ -1,10 +1,8 @@
 -- `chain::walk_chain` meets its contract. The invariant is `Going`: what the definition gives from here is what it gives from the start.
 -- A card without a fault leaves room, so the room left falls. Assumes nothing.
-use borrow.Author.Needs.{needs}
 use native.Mathlib.Omega.{arith}
 use mathlib.Core.Path.{refl}
 use Prim.Native.Nat.{_-_, _<_}
-use lib.ListN.{length}
 use Rattle.chain.specs.Answer.{chainOf, marked}
 use Rattle.chain.proofs.Going.{Going, going-start, going-end, going-index, going-fault, going-room, going-next}
 use Rattle.chain.proofs.walk_chain.Statement.{statement}

@@ -1,11 +1,14 @@
 -- `first::first_plan` meets its contract. Assumes nothing.
 use mathlib.Core.Path.{subst}
-use Rattle.pattern.specs.Tables.{jobIn}
 use Rattle.backtrack.specs.Trial.{Trial}
 use Rattle.first.proofs.Attempt.{first-found, first-absent}
 use borrow.Author.Needs.{needs}
 use Rattle.first.proofs.first_plan.Statement.{statement}
 use Rattle.first.proofs.first_plan.Tie as tie
+
+-- where the call begins
+abbrev start : tie.After-attempt → tie.Start
+start c = c .before .before .before .before .before .before .before
 
 attempt-requires : tie.Need-attempt-requires
 attempt-requires c κs = search needs
@@ -14,13 +17,17 @@ enum-told : tie.Need-enum-told
 enum-told c = search needs
 
 returns : tie.Need-returns
-returns c = first-found (jobIn (c .before .before .before .before .args .size) (c .before .before .before .before .args .class .now) (c .before .before .before .before .args .rule .now)) (c .before .before .before .before .args .may .now) _ (subst (Trial _ _ _ _) (c .enum-told .given .1) (c .before .before .attempt .ensures .0))
+returns c =
+    let t = c .before .before in
+    first-found _ (start t .args .may .now) _ (subst (Trial _ _ _ _) (c .enum-told .given .1) (t .attempt .ensures .0))
 
 enum-told-2 : tie.Need-enum-told-2
 enum-told-2 c = search needs
 
 returns-2 : tie.Need-returns-2
-returns-2 c = first-absent (jobIn (c .before .before .before .before .args .size) (c .before .before .before .before .args .class .now) (c .before .before .before .before .args .rule .now)) (c .before .before .before .before .args .may .now) _ (subst (Trial _ _ _ _) (c .enum-told2 .given .1) (c .before .before .attempt .ensures .0))
+returns-2 c =
+    let t = c .before .before in
+    first-absent _ (start t .args .may .now) _ (subst (Trial _ _ _ _) (c .enum-told2 .given .1) (t .attempt .ensures .0))
 
 enum-told-3 : tie.Need-enum-told-3
 enum-told-3 c = search needs

@@ -3,90 +3,100 @@
 use mathlib.Core.Path.{_≡_}
 use native.Mathlib.Omega.{arith}
 use lib.ListN.{length, length-set}
-use Rattle.bits.proofs.SetLaws.{removed-less}
-use Rattle.pattern.specs.Tables.{jobIn}
-use Rattle.first.proofs.Settling.{bit-word-pos, standing-person, Looking, looking-start, settled-none, settled-found, looking-next}
+use Rattle.levels.specs.Tabled.{tabledJob}
+use Rattle.first.proofs.Settling.{bit-word-pos, InHand, step-small, person, Looking, looking-start, settled-none, settled-found, looking-next}
 use Rattle.first.proofs.settle.Statement.{statement}
 use Rattle.first.proofs.settle.Tie as tie
 
 abbrev Inv-loop : tie.InvT-loop
-Inv-loop size class crowd rule of s may₀ weight₀ plan₀ p left₀ may weight plan left =
+Inv-loop tables s may₀ weight₀ plan₀ p left₀ may weight plan left =
     (length weight ≡ 12)
     × (length plan ≡ 12)
-    × Looking (jobIn size class rule) s may₀ may plan₀ plan left
+    × Looking (tabledJob tables) s may₀ may plan₀ plan left
 
 abbrev μ-loop : tie.MeasureT-loop
-μ-loop size class crowd rule of s may₀ weight₀ plan₀ p left₀ may weight plan left = left
+μ-loop tables s may₀ weight₀ plan₀ p left₀ may weight plan left = left
+
+-- the step and the plan in hand
+hand : (c : tie.Start Inv-loop μ-loop) → InHand (tabledJob (c .args .tables)) (c .args .s) (c .args .may .now) (c .args .plan .now)
+hand c =
+    let p = c .pre in
+    let g = p .0 .tabled .given in
+    record { standing = p .5; masks = p .1; sized = p .3; below = p .4; few = g .ruled .few-steps; people = g .few-people }
+
+-- where the call begins
+abbrev start : tie.At-loop Inv-loop μ-loop → tie.Start Inv-loop μ-loop
+start c = c .before .before .before
 
 element-copy-out-p : tie.Need-element-copy-out-p Inv-loop μ-loop
-element-copy-out-p c = omega (arith, c .pre .0 .given .ruled .few-steps, c .pre .4)
+element-copy-out-p c = omega (arith, step-small (hand c), hand c .sized)
 
 mul-left : tie.Need-mul-left Inv-loop μ-loop
-mul-left c = omega (arith, c .before .pre .0 .given .ruled .few-steps, c .before .pre .4)
+mul-left c = omega (arith, step-small (hand (c .before)))
 
 element-copy-out-left : tie.Need-element-copy-out-left Inv-loop μ-loop
-element-copy-out-left c = omega (arith, c .before .pre .0 .given .ruled .few-steps, c .before .pre .4)
+element-copy-out-left c = omega (arith, step-small (hand (c .before)), hand (c .before) .masks)
 
 cast-left : tie.Need-cast-left Inv-loop μ-loop
-cast-left c = omega (arith, standing-person (c .before .before .args .plan .now) (c .before .before .pre .5) (c .before .before .pre .4) (c .before .before .pre .0 .given .few-people))
+cast-left c = omega (arith, person (hand (c .before .before)))
 
 shl-left : tie.Need-shl-left Inv-loop μ-loop
-shl-left c = standing-person (c .before .before .args .plan .now) (c .before .before .pre .5) (c .before .before .pre .4) (c .before .before .pre .0 .given .few-people)
+shl-left c = person (hand (c .before .before))
 
 rem-left : tie.Need-rem-left Inv-loop μ-loop
-rem-left c = bit-word-pos _ (standing-person (c .before .before .args .plan .now) (c .before .before .pre .5) (c .before .before .pre .4) (c .before .before .pre .0 .given .few-people))
+rem-left c = bit-word-pos _ (person (hand (c .before .before)))
 
 loop-holds : tie.Need-loop-holds Inv-loop μ-loop
-loop-holds c = (c .before .before .pre .2, c .before .before .pre .3, looking-start (c .before .before .args .may .now) (c .before .before .args .plan .now) (c .before .before .pre .5) (c .before .before .pre .1) (c .before .before .pre .3) (c .before .before .pre .4) (c .before .before .pre .0 .given .ruled .few-steps) (c .before .before .pre .0 .given .few-people))
+loop-holds c = let s = c .before .before in (s .pre .2, s .pre .3, looking-start (hand s))
 
-lowest-requires : tie.Need-lowest-requires Inv-loop μ-loop
-lowest-requires c κs = c .loop-test .taken
-
-without-requires : tie.Need-without-requires Inv-loop μ-loop
-without-requires c κs = c .lowest .ensures .0
+take-requires : tie.Need-take-requires Inv-loop μ-loop
+take-requires c κs = c .loop-test .taken
 
 shl-may : tie.Need-shl-may Inv-loop μ-loop
-shl-may c = c .before .lowest .ensures .0
+shl-may c = c .take .ensures .0
 
 mul-may : tie.Need-mul-may Inv-loop μ-loop
-mul-may c = omega (arith, c .before .before .before .before .before .before .pre .0 .given .ruled .few-steps, c .before .before .before .before .before .before .pre .4)
+mul-may c = omega (arith, step-small (hand (start (c .before .before))))
 
 element-write-may : tie.Need-element-write-may Inv-loop μ-loop
-element-write-may c = omega (arith, c .before .before .before .before .before .before .pre .0 .given .ruled .few-steps, c .before .before .before .before .before .before .pre .4, c .before .before .before .loop .inv .2 .masks)
+element-write-may c = let l = c .before .before in omega (arith, step-small (hand (start l)), l .loop .inv .2 .masks)
 
 exists-requires : tie.Need-exists-requires Inv-loop μ-loop
 exists-requires c κs =
-    let v = c .before .before .before .before .before .before .loop .inv in
-    (c .before .before .before .before .before .before .before .before .before .pre .0, simp length-set (v .2 .masks), v .0, v .1)
+    let l = c .before .before .before .before .before in
+    (start l .pre .0, simp length-set (l .loop .inv .2 .masks), l .loop .inv .0, l .loop .inv .1)
 
 returns : tie.Need-returns Inv-loop μ-loop
 returns c =
-    let low = c .before .before .before .before .before .before .lowest .ensures in
-    (settled-found (c .before .before .before .before .before .before .before .before .before .before .before .args .may .now) (c .before .before .before .before .before .before .before .before .before .before .before .args .plan .now) (c .before .before .before .before .before .before .before .before .before .before .before .pre .5) (c .before .before .before .before .before .before .before .before .before .before .before .pre .1) (c .before .before .before .before .before .before .before .before .before .before .before .pre .3) (c .before .before .before .before .before .before .before .before .before .before .before .pre .4) (c .before .before .before .before .before .before .before .before .before .before .before .pre .0 .given .ruled .few-steps) (c .before .before .before .before .before .before .before .before .before .before .before .pre .0 .given .few-people) (c .before .before .before .before .before .before .before .before .loop .inv .2) (low .0) (low .1) (c .before .exists .ensures .0) (c .if1 .taken), c .before .exists .ensures .1)
+    let t = c .before .before .before .before .before in
+    let l = t .before .before in
+    let x = c .before .exists .ensures in
+    (settled-found (hand (start l)) (l .loop .inv .2) (t .take .ensures .0) (t .take .ensures .1) (x .0) (c .if1 .taken), x .1)
 
 loop-less : tie.Need-loop-less Inv-loop μ-loop
-loop-less c = removed-less (c .before .before .before .before .before .before .lowest .ensures .1 .has) (c .before .before .before .before .before .without .ensures)
+loop-less c = c .before .before .before .before .before .take .ensures .1 .less
 
 loop-again : tie.Need-loop-again Inv-loop μ-loop
 loop-again c =
-    let low = c .before .before .before .before .before .before .lowest .ensures in
+    let t = c .before .before .before .before .before in
+    let l = t .before .before in
     let x = c .before .exists .ensures in
-    (x .1, x .0 .sized, looking-next (c .before .before .before .before .before .before .before .before .before .before .before .args .may .now) (c .before .before .before .before .before .before .before .before .before .before .before .args .plan .now) (c .before .before .before .before .before .before .before .before .before .before .before .pre .5) (c .before .before .before .before .before .before .before .before .before .before .before .pre .1) (c .before .before .before .before .before .before .before .before .before .before .before .pre .3) (c .before .before .before .before .before .before .before .before .before .before .before .pre .4) (c .before .before .before .before .before .before .before .before .before .before .before .pre .0 .given .ruled .few-steps) (c .before .before .before .before .before .before .before .before .before .before .before .pre .0 .given .few-people) (c .before .before .before .before .before .before .before .before .loop .inv .2) (low .0) (low .1) (x .0) _ (c .before .before .before .before .before .without .ensures) (c .if1 .left))
+    (x .1, x .0 .sized, looking-next (hand (start l)) (l .loop .inv .2) (t .take .ensures .0) (t .take .ensures .1) (x .0) (c .if1 .left))
 
 cast-may : tie.Need-cast-may Inv-loop μ-loop
-cast-may c = omega (arith, standing-person (c .before .before .before .before .args .plan .now) (c .before .before .before .before .pre .5) (c .before .before .before .before .pre .4) (c .before .before .before .before .pre .0 .given .few-people))
+cast-may c = omega (arith, person (hand (start (c .before))))
 
 shl-may-2 : tie.Need-shl-may-2 Inv-loop μ-loop
-shl-may-2 c = standing-person (c .before .before .before .before .args .plan .now) (c .before .before .before .before .pre .5) (c .before .before .before .before .pre .4) (c .before .before .before .before .pre .0 .given .few-people)
+shl-may-2 c = person (hand (start (c .before)))
 
 mul-may-2 : tie.Need-mul-may-2 Inv-loop μ-loop
-mul-may-2 c = omega (arith, c .before .before .before .before .pre .0 .given .ruled .few-steps, c .before .before .before .before .pre .4)
+mul-may-2 c = omega (arith, step-small (hand (start (c .before))))
 
 element-write-may-2 : tie.Need-element-write-may-2 Inv-loop μ-loop
-element-write-may-2 c = omega (arith, c .before .before .before .before .pre .0 .given .ruled .few-steps, c .before .before .before .before .pre .4, c .before .loop .inv .2 .masks)
+element-write-may-2 c = omega (arith, step-small (hand (start (c .before))), c .before .loop .inv .2 .masks)
 
 returns-2 : tie.Need-returns-2 Inv-loop μ-loop
-returns-2 c = (settled-none (c .before .before .before .before .args .may .now) (c .before .before .before .before .args .plan .now) (c .before .before .before .before .pre .5) (c .before .before .before .before .pre .1) (c .before .before .before .before .pre .3) (c .before .before .before .before .pre .4) (c .before .before .before .before .pre .0 .given .ruled .few-steps) (c .before .before .before .before .pre .0 .given .few-people) (c .before .loop .inv .2) (omega arith), c .before .loop .inv .0)
+returns-2 c = let l = c .before in (settled-none (hand (start l)) (l .loop .inv .2) (omega arith), l .loop .inv .0)
 
 pub settle-spec : {M : Type 1} → statement M
 settle-spec =
@@ -101,8 +111,7 @@ settle-spec =
     shl-left
     rem-left
     loop-holds
-    lowest-requires
-    without-requires
+    take-requires
     shl-may
     mul-may
     element-write-may

@@ -35,8 +35,10 @@ loop-less c = omega arith
 
 loop-again : tie.Need-loop-again Inv-loop μ-loop
 loop-again c =
-    let l = c .before .before .before .before .loop in
-    (omega arith, marks-more (l .i) (l .all) (c .before .level .result) (c .with .result) (c .before .before .before .before .before .args .rule .now) (c .before .level .ensures .0) (c .with .ensures) (l .inv .1))
+    let v = c .before .level in
+    let h = c .before .before .before .before in
+    let l = h .loop in
+    (omega arith, marks-more (l .i) (l .all) (v .result) (c .with .result) (h .before .args .rule .now) (v .ensures .0) (c .with .ensures) (l .inv .1))
 
 returns : tie.Need-returns Inv-loop μ-loop
 returns c = λ i l. c .before .loop .inv .1 i (omega arith)

@@ -3,13 +3,13 @@ use mathlib.Core.Path.{refl, sym, _∙_}
 use Prim.Native.Nat.{_≤_, _-_}
 use native.Mathlib.Omega.{arith}
 use borrow.Author.Tests.{not-true}
-use Rattle.levels.specs.Trims.{Numbered}
+use Rattle.levels.specs.Trims.{KeptLevels}
 use Rattle.levels.proofs.Numbering.{numbered-none, numbered-skip, numbered-take, numbered-all}
 use Rattle.levels.proofs.number.Statement.{statement}
 use Rattle.levels.proofs.number.Tie as tie
 
 abbrev Inv-loop : tie.InvT-loop
-Inv-loop levels marked old₀ new₀ count₀ q₀ old new count q = (q ≤ levels) × Numbered q marked count old new
+Inv-loop levels marked old₀ new₀ count₀ q₀ old new count q = (q ≤ levels) × KeptLevels q marked count old new
 
 abbrev μ-loop : tie.MeasureT-loop
 μ-loop levels marked old₀ new₀ count₀ q₀ old new count q = levels - q

@@ -80,15 +80,19 @@ augment-returns t c = turn-last (c .before .loop .inv) (c .if1 .taken)
 
 -- what is known of a turn once the holder of the class is looked up
 turn : (t : ℕ) (c : augment-lts.After-holder (augment-claims t) (augment-at t) augment.Post Inv-loop μ-loop)
-    → Turn (c .before .before .before .before .before .before .before .before .args .edges .now) (c .before .before .before .before .before .before .before .before .args .at .now) (c .before .before .before .before .before .before .loop .at) (c .before .before .before .before .before .before .before .before .args .free .now) (c .before .before .before .before .before .before .loop .free) (c .before .before .before .before .before .before .before .before .args .unseen .now) (c .before .before .before .before .before .before .loop .unseen)
-    (c .before .before .without .result) (c .before .before .before .before .before .before .before .before .args .g) (c .before .before .before .before .lowest .result) (c .holder .result)
-turn t c = record {
-  search = c .before .before .before .before .before .before .loop .inv;
-  fits = c .before .before .before .row-known .given .fits;
-  low = c .before .before .before .before .lowest .ensures;
-  gone = c .before .before .without .ensures;
-  holder = c .holder .ensures;
-}
+    → let k = c .before .before in let l = k .before .before .before .before in let a = l .before .before .args in
+    Turn (a .edges .now) (a .at .now) (l .loop .at) (a .free .now) (l .loop .free) (a .unseen .now) (l .loop .unseen) (k .without .result) (a .g)
+    (k .before .before .lowest .result) (c .holder .result)
+turn t c =
+    let k = c .before .before in
+    let w = k .before .before in
+    record {
+      search = w .before .before .loop .inv;
+      fits = k .before .row-known .given .fits;
+      low = w .lowest .ensures;
+      gone = k .without .ensures;
+      holder = c .holder .ensures;
+    }
 
 augment-lowest-requires : (t : ℕ) → augment-lts.Need-lowest-requires (augment-claims t) (augment-at t) augment.Post Inv-loop μ-loop
 augment-lowest-requires t c κs = search needs
@@ -113,11 +117,14 @@ augment-element-write-at-2 t c = search needs
 
 augment-place-requires : (t : ℕ) → augment-lts.Need-place-requires (augment-claims t) (augment-at t) augment.Post Inv-loop μ-loop
 augment-place-requires t c κs =
-    let k = turn t (c .before .before .before .before) in
-    (turn-below k (c .before .before .before .before .before .before .before .before .before .before .before .before .pre .0), turn-ready k (c .before .before .before .if2 .left))
+    let h = c .before .before .before .before in
+    let s = h .before .before .before .before .before .before .before .before in
+    (turn-below (turn t h) (s .pre .0), turn-ready (turn t h) (c .before .before .before .if2 .left))
 
 augment-returns-3 : (t : ℕ) → augment-lts.Need-returns-3 (augment-claims t) (augment-at t) augment.Post Inv-loop μ-loop
-augment-returns-3 t c = turn-won (turn t (c .before .before .before .before .before .before)) (c .before .place .ensures) (c .before .before .before .before .before .if2 .left) (c .if3 .taken)
+augment-returns-3 t c =
+    let e = c .before .before .before .before .before in
+    turn-won (turn t (e .before)) (c .before .place .ensures) (e .if2 .left) (c .if3 .taken)
 
 augment-element-write-at-3 : (t : ℕ) → augment-lts.Need-element-write-at-3 (augment-claims t) (augment-at t) augment.Post Inv-loop μ-loop
 augment-element-write-at-3 t c = search needs
@@ -129,7 +136,9 @@ augment-loop-less : (t : ℕ) → augment-lts.Need-loop-less (augment-claims t) 
 augment-loop-less t c = turn-less (turn t (c .before .before .before .before .before .before)) (c .before .place .ensures) (c .if3 .left)
 
 augment-loop-again : (t : ℕ) → augment-lts.Need-loop-again (augment-claims t) (augment-at t) augment.Post Inv-loop μ-loop
-augment-loop-again t c = turn-lost (turn t (c .before .before .before .before .before .before)) (c .before .place .ensures) (c .before .before .before .before .before .if2 .left) (c .if3 .left)
+augment-loop-again t c =
+    let e = c .before .before .before .before .before in
+    turn-lost (turn t (e .before)) (c .before .place .ensures) (e .if2 .left) (c .if3 .left)
 
 place-mul-idle : (t : ℕ) → place-lts.Need-mul-idle (place-claims t) (place-at t) place.Post
 place-mul-idle t c = search needs
@@ -153,7 +162,10 @@ place-returns : (t : ℕ) → place-lts.Need-returns (place-claims t) (place-at 
 place-returns t c = turn-free (c .before .before .before .before .before .pre .1) (c .before .lowest .ensures) (c .without .ensures)
 
 place-augment-requires : (t : ℕ) → place-lts.Need-augment-requires (place-claims t) (place-at t) place.Post
-place-augment-requires t c κs = (omega (arith, c .before .before .before .before .before .before .pre .0), turn-crowded (c .before .before .before .before .before .before .pre .1) (c .before .before .before .if1 .left))
+place-augment-requires t c κs =
+    let e = c .before .before .before in
+    let p = e .before .before .before .pre in
+    (omega (arith, p .0), turn-crowded (p .1) (e .if1 .left))
 
 place-returns-2 : (t : ℕ) → place-lts.Need-returns-2 (place-claims t) (place-at t) place.Post
 place-returns-2 t c = c .augment .ensures

@@ -44,7 +44,11 @@ loop-again : tie.Need-loop-again Inv-loop μ-loop
 loop-again c =
     let l = c .before .before .before in
     let a = l .before .args in
-    (refl, omega arith, carries-more (a .size) (l .loop .i) (a .class .now) (a .rule .now) (a .q) (l .loop .carried) (c .say .result) (omega (arith, l .before .pre .0 .ruled .few-rules)) (l .loop .inv .2) (c .say .ensures))
+    let few = l .before .pre .0 .ruled .few-rules in (
+      refl,
+      omega arith,
+      carries-more (a .size) (l .loop .i) (a .class .now) (a .rule .now) (a .q) (l .loop .carried) (c .say .result) (omega (arith, few)) (l .loop .inv .2) (c .say .ensures),
+    )
 
 returns : tie.Need-returns Inv-loop μ-loop
 returns c =

@@ -13,22 +13,30 @@ refused-requires : tie.Need-refused-requires
 refused-requires c κs = search needs
 
 returns : tie.Need-returns
-returns c = bad-length _ _ (not-true _ (c .before .if1 .taken)) (c .before .before .length-ok .ensures) (c .refused .ensures)
+returns c = bad-length _ (not-true _ (c .before .if1 .taken)) (c .before .before .length-ok .ensures) (c .refused .ensures)
 
 header-ok-requires : tie.Need-header-ok-requires
-header-ok-requires c κs = long-enough (now (c .before .before .before .args .sheet)) _ (not-false _ (c .if1 .left)) (c .before .length-ok .ensures) .0
+header-ok-requires c κs = long-enough (now (c .before .before .before .args .sheet)) (not-false _ (c .if1 .left)) (c .before .length-ok .ensures) .0
 
 refused-requires-2 : tie.Need-refused-requires-2
 refused-requires-2 c κs = search needs
 
 returns-2 : tie.Need-returns-2
-returns-2 c = bad-header _ _ (not-false _ (c .before .before .before .if1 .left)) (c .before .before .before .before .length-ok .ensures) _ (not-true _ (c .before .if2 .taken)) (c .before .before .header-ok .ensures) (c .refused2 .ensures)
+returns-2 c =
+    let e = c .before .before .before in
+    bad-header _ (not-false _ (e .if1 .left)) (e .before .length-ok .ensures) (not-true _ (c .before .if2 .taken)) (c .before .before .header-ok .ensures)
+    (c .refused2 .ensures)
 
 read-people-requires : tie.Need-read-people-requires
-read-people-requires c κs = long-enough (now (c .before .before .before .before .before .args .sheet)) _ (not-false _ (c .before .before .if1 .left)) (c .before .before .before .length-ok .ensures) .1
+read-people-requires c κs =
+    let e = c .before .before in
+    long-enough (now (e .before .before .before .args .sheet)) (not-false _ (e .if1 .left)) (e .before .length-ok .ensures) .1
 
 returns-3 : tie.Need-returns-3
-returns-3 c = read-on _ _ (not-false _ (c .before .before .before .if1 .left)) (c .before .before .before .before .length-ok .ensures) _ (not-false _ (c .before .if2 .left)) (c .before .before .header-ok .ensures) (c .read-people .ensures)
+returns-3 c =
+    let e = c .before .before .before in
+    read-on _ (not-false _ (e .if1 .left)) (e .before .length-ok .ensures) (not-false _ (c .before .if2 .left)) (c .before .before .header-ok .ensures)
+    (c .read-people .ensures)
 
 pub read-sheet-spec : {M : Type 1} → statement M
 read-sheet-spec =

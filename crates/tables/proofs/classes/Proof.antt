@@ -2,8 +2,8 @@
 use native.Mathlib.Omega.{arith}
 use Prim.Native.Nat.{_-_, _≤_}
 use mathlib.Core.Path.{refl}
-use Rattle.sheet.specs.Slots.{Firsts}
-use Rattle.sheet.proofs.SlotLaws.{firsts-none}
+use Rattle.bits.specs.Slots.{FirstOfSlot}
+use Rattle.bits.proofs.SlotLaws.{firsts-none}
 use Rattle.tables.specs.Arrays.{ClassesOf}
 use Rattle.tables.proofs.Leaders.{classes-none, classes-more, classes-all, first-bound}
 use Rattle.tables.proofs.classes.Statement.{statement}
@@ -11,7 +11,7 @@ use Rattle.tables.proofs.classes.Tie as tie
 
 abbrev Inv-loop : tie.InvT-loop
 Inv-loop shop bench people class₀ shops₀ benches₀ p₀ class shops benches p =
-    (p ≤ people) × ClassesOf shop bench people p class × Firsts shop p shops × Firsts bench p benches
+    (p ≤ people) × ClassesOf shop bench people p class × FirstOfSlot shop p shops × FirstOfSlot bench p benches
 
 abbrev μ-loop : tie.MeasureT-loop
 μ-loop shop bench people class₀ shops₀ benches₀ p₀ class shops benches p = people - p

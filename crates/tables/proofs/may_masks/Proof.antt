@@ -7,10 +7,10 @@ use Rattle.tables.proofs.may_masks.Statement.{statement}
 use Rattle.tables.proofs.may_masks.Tie as tie
 
 abbrev Inv-loop : tie.InvT-loop
-Inv-loop permitted people steps may₀ k₀ may k = (k ≤ people) × FromOn permitted (people - k) k may
+Inv-loop permitted people may₀ k₀ may k = (k ≤ people) × FromOn permitted (people - k) k may
 
 abbrev μ-loop : tie.MeasureT-loop
-μ-loop permitted people steps may₀ k₀ may k = people - k
+μ-loop permitted people may₀ k₀ may k = people - k
 
 loop-holds : tie.Need-loop-holds Inv-loop μ-loop
 loop-holds c = (omega arith, from-none _ _)
@@ -42,7 +42,7 @@ loop-again : tie.Need-loop-again Inv-loop μ-loop
 loop-again c = (omega arith, from-more _ _ _ _ _ (c .before .before .before .loop-test .taken) (c .before .before .before .before .loop .inv .1) (c .push .ensures))
 
 returns : tie.Need-returns Inv-loop μ-loop
-returns c = from-all _ _ _ _ _ (c .before .before .pre .2) (c .before .loop .inv .0) (c .loop-test .left) (c .before .loop .inv .1)
+returns c = from-all _ _ _ _ _ (omega arith) (c .before .loop .inv .0) (c .loop-test .left) (c .before .loop .inv .1)
 
 pub may-masks-spec : {M : Type 1} → statement M
 may-masks-spec =

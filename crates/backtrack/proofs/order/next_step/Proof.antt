@@ -3,7 +3,6 @@ use mathlib.Core.Bool.{true}
 use native.Mathlib.Omega.{arith}
 use borrow.Author.Needs.{needs}
 use Rattle.bits.proofs.Below.{true-false}
-use Rattle.bits.proofs.Masks.{lowest-below}
 use Rattle.bits.proofs.SetLaws.{has-below}
 use Rattle.backtrack.proofs.order.next_step.Statement.{statement}
 use Rattle.backtrack.proofs.order.next_step.Tie as tie
@@ -12,7 +11,7 @@ lowest-requires : tie.Need-lowest-requires
 lowest-requires c κs = search needs
 
 returns : tie.Need-returns
-returns c = (lowest-below (c .before .before .pre .0) (c .lowest .ensures .1), c .lowest .ensures .1 .has, λ e. c .lowest .ensures .1)
+returns c = (has-below 12 _ _ (c .before .before .pre .0) (c .lowest .ensures .1 .has), c .lowest .ensures .1 .has, λ e. c .lowest .ensures .1)
 
 keys-requires : tie.Need-keys-requires
 keys-requires c κs = search needs

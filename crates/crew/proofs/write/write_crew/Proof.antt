@@ -29,8 +29,14 @@ mul-put-long-2 c = omega arith
 element-copy-out-put-long : tie.Need-element-copy-out-put-long Inv-loop μ-loop
 element-copy-out-put-long c = omega arith
 
+-- from a turn back to where the call begins
+abbrev start : tie.In-loop Inv-loop μ-loop → tie.Start Inv-loop μ-loop
+start c = c .before .before .before
+
 put-long-requires : tie.Need-put-long-requires Inv-loop μ-loop
-put-long-requires c κs = omega (arith, writing-length _ _ _ _ _ _ _ (c .before .before .before .before .loop .inv) (c .before .before .before .before .before .before .pre .4))
+put-long-requires c κs =
+    let t = c .before .before .before in
+    omega (arith, writing-length _ _ _ _ _ _ _ (t .before .loop .inv) (start t .pre .4))
 
 mul-put-long-3 : tie.Need-mul-put-long-3 Inv-loop μ-loop
 mul-put-long-3 c = omega arith
@@ -38,16 +44,23 @@ mul-put-long-3 c = omega arith
 add-put-long : tie.Need-add-put-long Inv-loop μ-loop
 add-put-long c = omega arith
 
+-- from the step's tag back to the turn that writes it
+abbrev turn : tie.After-put-long Inv-loop μ-loop → tie.In-loop Inv-loop μ-loop
+turn c = c .before .before .before .before
+
 mul-put-long-4 : tie.Need-mul-put-long-4 Inv-loop μ-loop
-mul-put-long-4 c = omega (arith, c .before .before .before .before .before .before .before .before .before .before .pre .5 (c .before .before .before .before .before .before .before .before .loop .s) (c .before .before .before .before .before .before .before .loop-test .taken))
+mul-put-long-4 c = let t = turn (c .before .before .before) in omega (arith, start t .pre .5 (t .before .loop .s) (t .loop-test .taken))
 
 element-copy-out-put-long-2 : tie.Need-element-copy-out-put-long-2 Inv-loop μ-loop
 element-copy-out-put-long-2 c =
-    let s = c .before .before .before .before .before .before .before .before .before .before in
-    omega (arith, s .pre .5 (c .before .before .before .before .before .before .before .before .loop .s) (c .before .before .before .before .before .before .before .loop-test .taken))
+    let t = turn (c .before .before .before) in
+    omega (arith, start t .pre .5 (t .before .loop .s) (t .loop-test .taken))
 
 put-long-requires-2 : tie.Need-put-long-requires-2 Inv-loop μ-loop
-put-long-requires-2 c κs = omega (arith, writing-length _ _ _ _ _ _ _ (c .before .before .before .before .before .before .before .before .before .loop .inv) (c .before .before .before .before .before .before .before .before .before .before .before .pre .4), c .before .before .before .before .put-long .kept .0)
+put-long-requires-2 c κs =
+    let w = c .before .before .before .before in
+    let t = turn w in
+    omega (arith, writing-length _ _ _ _ _ _ _ (t .before .loop .inv) (start t .pre .4), w .put-long .kept .0)
 
 add-s : tie.Need-add-s Inv-loop μ-loop
 add-s c = omega arith
@@ -56,7 +69,10 @@ loop-less : tie.Need-loop-less Inv-loop μ-loop
 loop-less c = omega arith
 
 loop-again : tie.Need-loop-again Inv-loop μ-loop
-loop-again c = put-person _ _ _ _ _ (c .before .before .before .before .before .before .before .before .before .before .before .before .before .before .pre .4) _ _ (c .before .before .before .before .before .before .before .before .before .before .before .before .loop .inv) (c .before .before .before .before .before .before .before .before .before .before .before .loop-test .taken) _ _ (c .before .before .before .before .before .before .before .put-long .ensures) (c .before .before .put-long2 .ensures)
+loop-again c =
+    let w = c .before .before .before .before .before .before .before in
+    let t = turn w in
+    put-person _ _ _ _ _ (start t .pre .4) _ _ (t .before .loop .inv) (t .loop-test .taken) _ _ (w .put-long .ensures) (c .before .before .put-long2 .ensures)
 
 same-length : tie.Need-same-length Inv-loop μ-loop
 same-length c = writing-length _ _ _ _ _ _ _ (c .before .loop .inv) (c .before .before .before .pre .4)

@@ -1,4 +1,5 @@
 -- `levels::index::by_name` meets its contract: the people passed are in the crowds of their classes. Assumes nothing.
+use mathlib.Core.Path.{sym, subst}
 use Prim.Native.Nat.{_≤_, _-_}
 use Rattle.levels.specs.Tabled.{ByName}
 use Rattle.levels.proofs.Crowds.{named-none, named-skip, named-take, named-all}
@@ -8,16 +9,19 @@ use Rattle.levels.proofs.index.by_name.Statement.{statement}
 use Rattle.levels.proofs.index.by_name.Tie as tie
 
 abbrev Inv-loop : tie.InvT-loop
-Inv-loop people levels class crowd₀ x₀ x-end crowd x = (x ≤ x-end) × ByName people levels class x crowd
+Inv-loop people levels class named₀ x₀ x-end named x = (x ≤ x-end) × ByName people levels class x named
 
 abbrev μ-loop : tie.MeasureT-loop
-μ-loop people levels class crowd₀ x₀ x-end crowd x = x-end - x
+μ-loop people levels class named₀ x₀ x-end named x = x-end - x
 
 mul-x-end : tie.Need-mul-x-end Inv-loop μ-loop
 mul-x-end c = omega arith
 
 loop-holds : tie.Need-loop-holds Inv-loop μ-loop
-loop-holds c = let a = c .args in let q = c .pre in (omega arith, named-none (a .people) (a .levels) (q .0) (q .1) (a .class .now))
+loop-holds c =
+    let a = c .args in
+    let q = c .pre in
+    (omega arith, subst (ByName (a .people) (a .levels) (a .class .now) 0) (sym (q .3)) (named-none (a .people) (a .levels) (q .0) (q .1) (a .class .now)))
 
 add-x : tie.Need-add-x Inv-loop μ-loop
 add-x c = omega arith
@@ -30,7 +34,7 @@ loop-again c =
     let a = c .before .before .before .args in
     let q = c .before .before .before .pre in
     let l = c .before .before .loop in
-    (omega arith, named-skip (a .people) (a .levels) (q .0) (q .1) (a .class .now) (l .x) (l .crowd) (l .inv .1) (c .before .loop-test .taken) (c .if1 .taken))
+    (omega arith, named-skip (a .people) (a .levels) (q .0) (q .1) (a .class .now) (l .x) (l .named) (l .inv .1) (c .before .loop-test .taken) (c .if1 .taken))
 
 sub-v : tie.Need-sub-v Inv-loop μ-loop
 sub-v c = omega arith
@@ -47,17 +51,17 @@ add-v c = omega arith
 mul-with : tie.Need-mul-with Inv-loop μ-loop
 mul-with c = omega arith
 
-array-read-with : tie.Need-array-read-with Inv-loop μ-loop
-array-read-with c = omega arith
+element-copy-out-with : tie.Need-element-copy-out-with Inv-loop μ-loop
+element-copy-out-with c = omega (arith, c .before .before .before .loop .inv .1 .sized)
 
 with-requires : tie.Need-with-requires Inv-loop μ-loop
 with-requires c κs = search needs
 
-mul-crowd : tie.Need-mul-crowd Inv-loop μ-loop
-mul-crowd c = omega arith
+mul-named : tie.Need-mul-named Inv-loop μ-loop
+mul-named c = omega arith
 
-array-write-crowd : tie.Need-array-write-crowd Inv-loop μ-loop
-array-write-crowd c = omega arith
+element-write-named : tie.Need-element-write-named Inv-loop μ-loop
+element-write-named c = omega (arith, c .before .before .before .before .before .loop .inv .1 .sized)
 
 add-x-2 : tie.Need-add-x-2 Inv-loop μ-loop
 add-x-2 c = omega arith
@@ -67,16 +71,20 @@ loop-less-2 c = omega arith
 
 loop-again-2 : tie.Need-loop-again-2 Inv-loop μ-loop
 loop-again-2 c =
-    let a = c .before .before .before .before .before .args in
-    let q = c .before .before .before .before .before .pre in
-    let l = c .before .before .before .before .loop in
-    (omega arith, named-take (a .people) (a .levels) (q .0) (q .1) (a .class .now) (l .x) (l .crowd) (l .inv .1) (c .before .before .before .loop-test .taken) (c .with .result) (c .before .before .if1 .left) (c .with .ensures))
+    let e = c .before .before .before in
+    let t = e .before in
+    let l = t .before .loop in
+    let s = t .before .before in (
+      omega arith,
+      named-take (s .args .people) (s .args .levels) (s .pre .0) (s .pre .1) (s .args .class .now) (l .x) (l .named) (l .inv .1) (t .loop-test .taken)
+          (c .with .result) (e .if1 .left) (c .with .ensures),
+    )
 
 returns : tie.Need-returns Inv-loop μ-loop
 returns c =
     let a = c .before .before .args in
     let l = c .before .loop in
-    named-all (a .people) (a .levels) (a .class .now) (l .x) (l .crowd) (l .inv .0) (c .loop-test .left) (l .inv .1)
+    named-all (a .people) (a .levels) (a .class .now) (l .x) (l .named) (l .inv .0) (c .loop-test .left) (l .inv .1)
 
 pub by-name-spec : {M : Type 1} → statement M
 by-name-spec =
@@ -94,10 +102,10 @@ by-name-spec =
     cast-v
     add-v
     mul-with
-    array-read-with
+    element-copy-out-with
     with-requires
-    mul-crowd
-    array-write-crowd
+    mul-named
+    element-write-named
     add-x-2
     loop-less-2
     loop-again-2

@@ -14,7 +14,7 @@ abbrev μ-loop : tie.MeasureT-loop
 μ-loop people levels class named crowd₀ x₀ x-end crowd x = x-end - x
 
 by-name-requires : tie.Need-by-name-requires Inv-loop μ-loop
-by-name-requires c κs = c .pre
+by-name-requires c κs = let p = c .before .pre in (p .0, p .1, p .2, refl)
 
 mul-x-end : tie.Need-mul-x-end Inv-loop μ-loop
 mul-x-end c = omega arith
@@ -56,7 +56,7 @@ loop-again : tie.Need-loop-again Inv-loop μ-loop
 loop-again c = (omega arith, person-more _ _ _ _ (omega arith) (c .before .before .loop .inv .1))
 
 returns : tie.Need-returns Inv-loop μ-loop
-returns c = gathered (c .before .loop .x) (c .before .before .before .pre .0) (c .loop-test .left) (c .before .before .by-name .ensures) (c .before .loop .inv .1)
+returns c = gathered (c .before .loop .x) (c .before .before .before .before .pre .0) (c .loop-test .left) (c .before .before .by-name .ensures) (c .before .loop .inv .1)
 
 pub crowds-spec : {M : Type 1} → statement M
 crowds-spec =

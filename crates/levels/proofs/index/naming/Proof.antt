@@ -4,7 +4,6 @@ use Prim.Native.Nat.{ℕ, _≤_, _<_, _-_}
 use Rattle.pattern.proofs.Given.{scope-small}
 use Rattle.levels.specs.Tabled.{Naming}
 use Rattle.levels.proofs.Names.{Giving, naming-none, giving-none, giving-next, naming-next, naming-all}
-use Rattle.bits.proofs.Masks.{lowest-less, lowest-below}
 use native.Mathlib.Omega.{arith}
 use borrow.Author.Needs.{needs}
 use Rattle.levels.proofs.index.naming.Statement.{statement}
@@ -41,15 +40,12 @@ loop2-holds c =
     subst (λ (m : ℕ). Giving (l .i) m (s .args .rule .now) (l .of)) (sym (c .scope .ensures))
     (giving-none (s .args .rule .now) (l .i) (l .of) (scope-small (s .pre) (l .i) (omega arith)) (l .inv .1))
 
-lowest-requires : tie.Need-lowest-requires Inv-loop2 μ-loop2 Inv-loop μ-loop
-lowest-requires c κs = search needs
-
-without-requires : tie.Need-without-requires Inv-loop2 μ-loop2 Inv-loop μ-loop
-without-requires c κs = search needs
+take-requires : tie.Need-take-requires Inv-loop2 μ-loop2 Inv-loop μ-loop
+take-requires c κs = search needs
 
 -- the step of a turn
-below : (c : tie.After-without Inv-loop2 μ-loop2 Inv-loop μ-loop) → c .before .lowest .result < 12
-below c = lowest-below (c .before .before .before .loop2 .inv .few) (c .before .lowest .ensures .1)
+below : (c : tie.After-take Inv-loop2 μ-loop2 Inv-loop μ-loop) → c .take .result .first < 12
+below c = c .take .ensures .1 .below 12 (c .before .before .loop2 .inv .few)
 
 mul-with : tie.Need-mul-with Inv-loop2 μ-loop2 Inv-loop μ-loop
 mul-with c = omega (arith, below c)
@@ -58,7 +54,7 @@ array-read-with : tie.Need-array-read-with Inv-loop2 μ-loop2 Inv-loop μ-loop
 array-read-with c = omega (arith, below c)
 
 with-requires : tie.Need-with-requires Inv-loop2 μ-loop2 Inv-loop μ-loop
-with-requires c κs = let l = c .before .before .before .before .before .before .before in omega (arith, l .loop .inv .0, l .before .pre .few-rules)
+with-requires c κs = let l = c .before .before .before .before .before .before in omega (arith, l .loop .inv .0, l .before .pre .few-rules)
 
 mul-of : tie.Need-mul-of Inv-loop2 μ-loop2 Inv-loop μ-loop
 mul-of c = omega (arith, below (c .before))
@@ -67,14 +63,15 @@ array-write-of : tie.Need-array-write-of Inv-loop2 μ-loop2 Inv-loop μ-loop
 array-write-of c = omega (arith, below (c .before))
 
 loop2-less : tie.Need-loop2-less Inv-loop2 μ-loop2 Inv-loop μ-loop
-loop2-less c = lowest-less (c .before .before .lowest .ensures .1) (c .before .without .ensures)
+loop2-less c = c .before .take .ensures .1 .less
 
 loop2-again : tie.Need-loop2-again Inv-loop2 μ-loop2 Inv-loop μ-loop
 loop2-again c =
-    let l = c .before .before .before .before in
+    let t = c .before .take in
+    let l = c .before .before .before in
     let o = l .before .before .before .before in
-    giving-next (o .before .args .rule .now) (o .loop .i) (l .loop2 .rest) (c .before .before .lowest .result) (c .before .without .result) (c .with .result) (l .loop2 .of)
-    (l .loop2 .inv) (c .before .before .lowest .ensures .1) (c .before .without .ensures) (c .with .ensures)
+    giving-next (o .before .args .rule .now) (o .loop .i) (l .loop2 .rest) (t .result .first) (t .result .rest) (c .with .result) (l .loop2 .of)
+    (l .loop2 .inv) (t .ensures .1) (c .with .ensures)
 
 add-i : tie.Need-add-i Inv-loop2 μ-loop2 Inv-loop μ-loop
 add-i c = omega arith
@@ -106,8 +103,7 @@ naming-spec =
     element-copy-out-scope
     scope-requires
     loop2-holds
-    lowest-requires
-    without-requires
+    take-requires
     mul-with
     array-read-with
     with-requires

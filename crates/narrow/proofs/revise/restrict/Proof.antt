@@ -1,10 +1,10 @@
 -- `narrow::revise::restrict` meets its contract: the steps passed have only such people, and the steps left fall. Assumes nothing.
-use Rattle.narrow.specs.Narrowing.{Restricting}
-use Rattle.bits.proofs.Masks.{lowest-less}
-use Rattle.narrow.proofs.Restricting.{restricting-none, turn-below, restricting-skip, restricting-take, restricted-fails, restricted-all}
 use Prim.Native.Nat.{_<_}
 use native.Mathlib.Omega.{arith}
 use borrow.Author.Needs.{needs}
+use Rattle.bits.proofs.Masks.{taken-below}
+use Rattle.narrow.specs.Narrowing.{Restricting}
+use Rattle.narrow.proofs.Restricting.{restricting-none, restricting-skip, restricting-take, restricted-fails, restricted-all}
 use Rattle.narrow.proofs.revise.restrict.Statement.{statement}
 use Rattle.narrow.proofs.revise.restrict.Tie as tie
 
@@ -15,21 +15,14 @@ abbrev μ-loop : tie.MeasureT-loop
 μ-loop steps people dom₀ changed₀ left₀ dom changed left = left
 
 loop-holds : tie.Need-loop-holds Inv-loop μ-loop
-loop-holds c = let a = c .args in restricting-none (a .steps) (a .people) (a .dom .now) (c .pre .1)
+loop-holds c = restricting-none (c .pre .1)
 
-lowest-requires : tie.Need-lowest-requires Inv-loop μ-loop
-lowest-requires c κs = search needs
-
-without-requires : tie.Need-without-requires Inv-loop μ-loop
-without-requires c κs = search needs
+take-requires : tie.Need-take-requires Inv-loop μ-loop
+take-requires c κs = search needs
 
 -- the step of a turn
-below : (c : tie.After-without Inv-loop μ-loop) → c .before .lowest .result < 12
-below c =
-    let a = c .before .before .before .before .args in
-    let l = c .before .before .before .loop in
-    turn-below (a .steps) (a .people) (a .dom .now) (l .dom) (l .left) (l .changed) (c .before .lowest .result) 0 (l .inv)
-    (c .before .before .before .before .pre .0) (c .before .lowest .ensures .1)
+below : (c : tie.After-take Inv-loop μ-loop) → c .take .result .first < 12
+below c = let l = c .before .before in taken-below (c .take .ensures .1) 12 (l .before .args .steps) (l .before .pre .0) (l .loop .inv .rest)
 
 mul-domain : tie.Need-mul-domain Inv-loop μ-loop
 mul-domain c = omega (arith, below c)
@@ -38,66 +31,34 @@ element-copy-out-domain : tie.Need-element-copy-out-domain Inv-loop μ-loop
 element-copy-out-domain c = omega (arith, below c)
 
 loop-less : tie.Need-loop-less Inv-loop μ-loop
-loop-less c = lowest-less (c .before .before .before .lowest .ensures .1) (c .before .before .without .ensures)
+loop-less c = c .before .before .take .ensures .1 .less
 
 loop-again : tie.Need-loop-again Inv-loop μ-loop
-loop-again c =
-    let a = c .before .before .before .before .before .before .args in
-    let l = c .before .before .before .before .before .loop in
-    restricting-skip (a .steps) (a .people) (a .dom .now) (l .dom) (l .left) (l .changed) (c .before .before .before .lowest .result)
-    (c .before .before .without .result) (l .inv) (c .before .before .without .ensures)
+loop-again c = let t = c .before .before in restricting-skip (t .before .before .loop .inv) (t .take .ensures .1)
 
 returns : tie.Need-returns Inv-loop μ-loop
-returns c =
-    let a = c .before .before .before .before .before .before .before .args in
-    let l = c .before .before .before .before .before .before .loop in
-    restricted-fails (a .steps) (a .people) (a .dom .now) (l .dom) (l .left) (l .changed) (c .before .before .before .before .lowest .result)
-    (c .before .before .before .without .result) (l .inv) (c .before .before .before .before .lowest .ensures .1) (c .if2 .taken)
+returns c = let t = c .before .before .before in restricted-fails (t .before .before .loop .inv) (t .take .ensures .1) (c .if2 .taken)
 
 mul-dom : tie.Need-mul-dom Inv-loop μ-loop
-mul-dom c = omega (arith, below (c .before .before .before), c .before .before .before .before .before .before .loop .inv .fewer .sized)
+mul-dom c = let t = c .before .before .before in omega (arith, below t)
 
 element-write-dom : tie.Need-element-write-dom Inv-loop μ-loop
-element-write-dom c = omega (arith, below (c .before .before .before), c .before .before .before .before .before .before .loop .inv .fewer .sized)
+element-write-dom c = let t = c .before .before .before in omega (arith, below t, t .before .before .loop .inv .fewer .sized)
 
 with-requires : tie.Need-with-requires Inv-loop μ-loop
 with-requires c κs = search needs
 
 loop-less-2 : tie.Need-loop-less-2 Inv-loop μ-loop
-loop-less-2 c = lowest-less (c .before .before .before .before .before .lowest .ensures .1) (c .before .before .before .before .without .ensures)
+loop-less-2 c = c .before .before .before .before .take .ensures .1 .less
 
 loop-again-2 : tie.Need-loop-again-2 Inv-loop μ-loop
-loop-again-2 c =
-    let a = c .before .before .before .before .before .before .before .before .args in
-    let l = c .before .before .before .before .before .before .before .loop in
-    restricting-take (a .steps) (a .people) (a .dom .now) (l .dom) (l .left) (l .changed) (c .before .before .before .before .before .lowest .result)
-    (c .before .before .before .before .without .result) (l .inv) (below (c .before .before .before .before))
-    (c .before .before .before .before .before .lowest .ensures .1) (c .before .before .before .before .without .ensures) (c .with .result)
-    (c .with .ensures)
+loop-again-2 c = let t = c .before .before .before .before in restricting-take (t .before .before .loop .inv) (t .take .ensures .1) (below t) (c .with .ensures)
 
 returns-2 : tie.Need-returns-2 Inv-loop μ-loop
-returns-2 c =
-    let a = c .before .before .args in
-    let l = c .before .loop in
-    restricted-all (a .steps) (a .people) (a .dom .now) (l .dom) (l .left) (l .changed) 0 0 (l .inv)
+returns-2 c = restricted-all (c .before .loop .inv)
 
 pub restrict-spec : {M : Type 1} → statement M
 restrict-spec =
     tie.close
-    (tie.spec
-    Inv-loop
-    μ-loop
-    loop-holds
-    lowest-requires
-    without-requires
-    mul-domain
-    element-copy-out-domain
-    loop-less
-    loop-again
-    returns
-    mul-dom
-    element-write-dom
-    with-requires
-    loop-less-2
-    loop-again-2
-    returns-2)
+    (tie.spec Inv-loop μ-loop loop-holds take-requires mul-domain element-copy-out-domain loop-less loop-again returns mul-dom
+    element-write-dom with-requires loop-less-2 loop-again-2 returns-2)

@@ -1,14 +1,14 @@
 -- `narrow::revise::upper` meets its contract. Assumes nothing.
-use mathlib.Core.Path.{_≡_, refl, sym, subst, _∙_}
-use Prim.Native.Nat.{ℕ, _<_}
+use Prim.Native.Nat.{_+_}
+use mathlib.Core.Path.{_≡_}
 use native.Mathlib.Omega.{arith}
 use borrow.Author.Needs.{needs}
+use lib.Count.{ones}
 use Rattle.bits.proofs.Masks.{all-has}
-use Rattle.narrow.proofs.Parting.{apart-few}
-use Rattle.narrow.specs.Domains.{AtLevel}
+use Rattle.narrow.specs.Domains.{ForClasses}
 use Rattle.narrow.specs.Parting.{Apart}
-use Rattle.pattern.specs.Rule.{levelIn, leastIn, mostIn}
-use Rattle.pattern.specs.Tables.{classIn}
+use Rattle.narrow.proofs.Settling.{at-level}
+use Rattle.pattern.specs.Rule.{levelIn}
 use Rattle.narrow.proofs.revise.upper.Statement.{statement}
 use Rattle.narrow.proofs.revise.upper.Tie as tie
 
@@ -16,65 +16,51 @@ level-requires : tie.Need-level-requires
 level-requires c κs = search needs
 
 apart-requires : tie.Need-apart-requires
-apart-requires c κs =
-    let s = c .before in
-    (subst (AtLevel (s .args .people) (s .args .class .now) (s .args .crowd .now)) (sym (c .level .ensures .0)) (s .pre .at), s .pre .wide-small, s .pre .sized)
+apart-requires c κs = search needs
 
-cast-total : tie.Need-cast-total
-cast-total c = search needs
+size-requires : tie.Need-size-requires
+size-requires c κs = search needs
 
-cast-total-2 : tie.Need-cast-total-2
-cast-total-2 c = omega (arith, apart-few (c .before .before .apart .ensures) (c .before .before .before .before .pre .wide-small))
+size-requires-2 : tie.Need-size-requires-2
+size-requires-2 c κs = search needs
 
 add-total : tie.Need-add-total
-add-total c = omega (arith, apart-few (c .before .before .apart .ensures) (c .before .before .before .before .pre .wide-small), c .before .before .before .before .pre .heads-few)
+add-total c = search needs
 
 most-requires : tie.Need-most-requires
 most-requires c κs = search needs
 
 -- the steps apart, at the rule's level
-parts : (c : tie.After-apart) → let a = c .before .before .args in
-    Apart (a .people) (classIn (a .class .now) (levelIn (a .r))) (a .forced .wide) (a .forced .used) (a .dom .now) (c .apart .result .used) (c .apart .result .heads)
+parts : (c : tie.After-most) → let p = c .before .before .before in let a = p .before .before .args in
+    ForClasses (a .crowd .now) (levelIn (a .r)) (λ people c′. Apart people c′ (a .forced .wide) (a .forced .used) (a .dom .now) (p .apart .result .used) (p .apart .result .heads))
 parts c =
-    let a = c .before .before .args in
-    subst (λ (q : ℕ). Apart (a .people) (classIn (a .class .now) q) (a .forced .wide) (a .forced .used) (a .dom .now) (c .apart .result .used) (c .apart .result .heads))
-    (c .before .level .ensures .0) (c .apart .ensures)
+    let p = c .before .before .before in
+    let a = p .before .before .args in
+    at-level (a .crowd .now) (λ people c′. Apart people c′ (a .forced .wide) (a .forced .used) (a .dom .now) (p .apart .result .used) (p .apart .result .heads))
+    (p .before .level .ensures .0) (p .apart .ensures)
+
+-- the classes that there are at least
+total : (c : tie.After-most) → let p = c .before .before .before in
+    c .before .before .size .result + c .before .size2 .result ≡ ones (p .before .before .args .forced .heads) + ones (p .apart .result .heads)
+total c = omega (arith, c .before .before .size .ensures, c .before .size2 .ensures)
 
 returns : tie.Need-returns
 returns c =
-    let p = c .before .before .before .before in
-    record {
-      all = p .apart .result .used;
-      heads = p .apart .result .heads;
-      apart = parts p;
-      has = λ q l le eq. absurd (omega (arith, c .if1 .taken, c .before .most .ensures));
-    }
+    let t = c .before in
+    λ people g. record { all = _; heads = _; apart = parts t people g; has = λ q l le eq. absurd (omega (arith, total t, c .if1 .taken, t .most .ensures)) }
 
 returns-2 : tie.Need-returns-2
-returns-2 c =
-    let p = c .before .before .before .before .before in
-    record { all = p .apart .result .used; heads = p .apart .result .heads; apart = parts p; has = λ q l le eq. all-has q l }
+returns-2 c = λ people g. record { all = _; heads = _; apart = parts (c .before .before) people g; has = λ q l le eq. all-has q l }
 
 returns-3 : tie.Need-returns-3
 returns-3 c =
-    let p = c .before .before .before .before .before in
-    record {
-      all = p .apart .result .used;
-      heads = p .apart .result .heads;
-      apart = parts p;
-      has = λ q l le eq. eq (omega (arith, c .if2 .left, c .before .if1 .left, c .before .before .most .ensures));
+    let t = c .before .before in
+    λ people g. record {
+      all = _;
+      heads = _;
+      apart = parts t people g;
+      has = λ q l le eq. eq (omega (arith, total t, c .if2 .left, c .before .if1 .left, t .most .ensures));
     }
 
 pub upper-spec : {M : Type 1} → statement M
-upper-spec =
-    tie.close
-    (tie.spec
-    level-requires
-    apart-requires
-    cast-total
-    cast-total-2
-    add-total
-    most-requires
-    returns
-    returns-2
-    returns-3)
+upper-spec = tie.close (tie.spec level-requires apart-requires size-requires size-requires-2 add-total most-requires returns returns-2 returns-3)

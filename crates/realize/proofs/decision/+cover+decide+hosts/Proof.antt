@@ -7,7 +7,7 @@ use native.Mathlib.Omega.{arith}
 use borrow.Author.Needs.{needs}
 use borrow.Author.Tests.{not-true, not-false}
 use Rattle.realize.specs.Decision.{Hosting, Linked}
-use Rattle.bits.proofs.Masks.{part-below, lowest-less}
+use Rattle.bits.proofs.Masks.{taken-below}
 use Rattle.realize.proofs.Rows.{group-sized, heads-few, hosting-none, hosting-skip, hosting-take, hosted-last, hosted-single, hosted-tried}
 use Rattle.realize.proofs.Rows.{linked-none, linked-next, covering-all, covering-none}
 use Rattle.realize.proofs.Decide.{decided-last, decided-covering}
@@ -22,11 +22,10 @@ use Rattle.realize.proofs.decision.+cover+decide+hosts.Lts-decide as de
 use Rattle.realize.proofs.decision.hosts.Reads as hosts
 use Rattle.realize.proofs.decision.hosts.Kinds as hosts-kinds
 use Rattle.realize.proofs.decision.+cover+decide+hosts.Lts-hosts as hosts-lts
-use Rattle.bits.proofs.set.lowest.Reads as set-lowest-reads
+use Rattle.bits.proofs.set.take.Reads as set-take-reads
 use Rattle.bits.proofs.set.with.Reads as with-reads
-use Rattle.bits.proofs.set.without.Reads as set-without-reads
-use Rattle.bits.proofs.small.lowest.Reads as small-lowest-reads
-use Rattle.bits.proofs.small.without.Reads as small-without-reads
+use Rattle.bits.proofs.small.take.Reads as small-take-reads
+use Rattle.bits.proofs.small.without.Reads as without-reads
 use Rattle.matching.proofs.assign.Reads as assign-reads
 use Rattle.realize.proofs.decision.candidates.Reads as candidates-reads
 use Rattle.realize.proofs.decision.staffed.Reads as staffed-reads
@@ -36,13 +35,13 @@ use Rattle.realize.proofs.decision.+cover+decide+hosts.{statement}
 use Rattle.realize.proofs.decision.+cover+decide+hosts.Tie.{close}
 
 abbrev μ-cover : Measures 4 cover-kinds.ps ℕ
-μ-cover κs a = 3 * (a .0 - a .1 .1 .1 .1 .1 .0) + 1
+μ-cover κs a = let t = a .1 .1 .1 .1 .0 in 3 * (t .levels - t .q) + 1
 
 abbrev μ-decide : Measures 4 decide-kinds.ps ℕ
-μ-decide κs a = 3 * (a .0 - a .1 .1 .1 .1 .1 .0) + 2
+μ-decide κs a = let t = a .1 .1 .1 .1 .0 in 3 * (t .levels - t .q) + 2
 
 abbrev μ-hosts : Measures 4 hosts-kinds.ps ℕ
-μ-hosts κs a = 3 * (a .0 - a .1 .1 .1 .1 .1 .0)
+μ-hosts κs a = let t = a .1 .1 .1 .1 .0 in 3 * (t .levels - t .q)
 
 abbrev cover-at : ℕ → In 4 cover-kinds.ps
 cover-at t = and 4 cover-kinds.ps (is 4 cover-kinds.ps μ-cover t) cover.Pre
@@ -66,10 +65,8 @@ abbrev cover-claims : ℕ → cover-lts.Claims
 cover-claims t = (
   groups-of-reads.Asked,
   groups-of-reads.Learnt,
-  small-lowest-reads.Asked,
-  small-lowest-reads.Learnt,
-  small-without-reads.Asked,
-  small-without-reads.Learnt,
+  small-take-reads.Asked,
+  small-take-reads.Learnt,
   members-reads.Asked,
   members-reads.Learnt,
   hosts-below t,
@@ -85,12 +82,10 @@ abbrev hosts-claims : ℕ → hosts-lts.Claims
 hosts-claims t = (
   candidates-reads.Asked,
   candidates-reads.Learnt,
-  small-without-reads.Asked,
-  small-without-reads.Learnt,
-  set-lowest-reads.Asked,
-  set-lowest-reads.Learnt,
-  set-without-reads.Asked,
-  set-without-reads.Learnt,
+  without-reads.Asked,
+  without-reads.Learnt,
+  set-take-reads.Asked,
+  set-take-reads.Learnt,
   decide-below t,
   decide.Post,
   with-reads.Asked,
@@ -98,10 +93,10 @@ hosts-claims t = (
 )
 
 abbrev cover-Inv-loop : cover-lts.InvT-loop
-cover-Inv-loop levels may label crowd reach q steps people heads edges₀ rest₀ edges rest = Linked levels may label crowd reach q steps people heads rest edges
+cover-Inv-loop may label crowd reach task heads edges₀ rest₀ edges rest = Linked may label crowd reach task heads rest edges
 
 abbrev cover-μ-loop : cover-lts.MeasureT-loop
-cover-μ-loop levels may label crowd reach q steps people heads edges₀ rest₀ edges rest = rest
+cover-μ-loop may label crowd reach task heads edges₀ rest₀ edges rest = rest
 
 cover-groups-of-requires : (t : ℕ) → cover-lts.Need-groups-of-requires (cover-claims t) (cover-at t) cover.Post cover-Inv-loop cover-μ-loop
 cover-groups-of-requires t c κs = let p = c .pre .1 in (p .0 .labels, omega arith, p .0 .below)
@@ -109,45 +104,44 @@ cover-groups-of-requires t c κs = let p = c .pre .1 in (p .0 .labels, omega ari
 cover-loop-holds : (t : ℕ) → cover-lts.Need-loop-holds (cover-claims t) (cover-at t) cover.Post cover-Inv-loop cover-μ-loop
 cover-loop-holds t c = linked-none refl
 
-cover-lowest-requires : (t : ℕ) → cover-lts.Need-lowest-requires (cover-claims t) (cover-at t) cover.Post cover-Inv-loop cover-μ-loop
-cover-lowest-requires t c κs = search needs
-
-cover-without-requires : (t : ℕ) → cover-lts.Need-without-requires (cover-claims t) (cover-at t) cover.Post cover-Inv-loop cover-μ-loop
-cover-without-requires t c κs = search needs
+cover-take-requires : (t : ℕ) → cover-lts.Need-take-requires (cover-claims t) (cover-at t) cover.Post cover-Inv-loop cover-μ-loop
+cover-take-requires t c κs = search needs
 
 cover-cast-members : (t : ℕ) → cover-lts.Need-cast-members (cover-claims t) (cover-at t) cover.Post cover-Inv-loop cover-μ-loop
 cover-cast-members t c = omega arith
 
 cover-members-requires : (t : ℕ) → cover-lts.Need-members-requires (cover-claims t) (cover-at t) cover.Post cover-Inv-loop cover-μ-loop
-cover-members-requires t c κs = let p = c .before .before .before .before .before .pre .1 in (p .0 .labels, omega arith, p .0 .below)
+cover-members-requires t c κs = let p = c .before .before .before .before .pre .1 in (p .0 .labels, omega arith, p .0 .below)
 
 cover-hosts-requires : (t : ℕ) → cover-lts.Need-hosts-requires (cover-claims t) (cover-at t) cover.Post cover-Inv-loop cover-μ-loop
 cover-hosts-requires t c κs =
-    let p = c .before .before .before .before .before .before .pre in
+    let p = c .before .before .before .before .before .pre in
     (omega arith, (group-sized (p .1 .0) _ _ (c .members .ensures), p .1 .1, omega arith))
 
 cover-returns : (t : ℕ) → cover-lts.Need-returns (cover-claims t) (cover-at t) cover.Post cover-Inv-loop cover-μ-loop
 cover-returns t c =
     let m = c .before .before in
-    let l = m .before .before .before .before in
-    covering-none (l .before .groups-of .ensures) (l .loop .inv) (m .before .before .lowest .ensures .1) (m .members .ensures) (c .before .hosts .ensures) (c .if1 .taken)
+    let l = m .before .before .before in
+    covering-none (l .before .groups-of .ensures) (l .loop .inv) (m .before .take .ensures .1 .lowest) (m .members .ensures) (c .before .hosts .ensures)
+    (c .if1 .taken)
 
 cover-mul-edges : (t : ℕ) → cover-lts.Need-mul-edges (cover-claims t) (cover-at t) cover.Post cover-Inv-loop cover-μ-loop
 cover-mul-edges t c = omega arith
 
 cover-array-write-edges : (t : ℕ) → cover-lts.Need-array-write-edges (cover-claims t) (cover-at t) cover.Post cover-Inv-loop cover-μ-loop
 cover-array-write-edges t c =
-    let g = c .before .before .before .before in
+    let g = c .before .before .before in
     let h = g .before .before .before in
-    part-below 12 (h .groups-of .result) _ _ (heads-few (h .before .pre .1 .0) _ (h .groups-of .ensures)) (g .before .before .loop .inv .part) (g .lowest .ensures .1)
+    taken-below (g .take .ensures .1) 12 (h .groups-of .result) (heads-few (h .before .pre .1 .0) _ (h .groups-of .ensures)) (g .before .before .loop .inv .part)
 
 cover-loop-less : (t : ℕ) → cover-lts.Need-loop-less (cover-claims t) (cover-at t) cover.Post cover-Inv-loop cover-μ-loop
-cover-loop-less t c = let g = c .before .before .before in lowest-less (g .before .lowest .ensures .1) (g .without .ensures)
+cover-loop-less t c = c .before .before .before .take .ensures .1 .less
 
 cover-loop-again : (t : ℕ) → cover-lts.Need-loop-again (cover-claims t) (cover-at t) cover.Post cover-Inv-loop cover-μ-loop
 cover-loop-again t c =
     let m = c .before .before in
-    linked-next (m .before .before .before .before .loop .inv) (m .before .without .ensures) (cover-array-write-edges t c) (m .members .ensures) (c .before .hosts .ensures)
+    let g = m .before in
+    linked-next (g .before .before .loop .inv) (g .take .ensures .1) (cover-array-write-edges t c) (m .members .ensures) (c .before .hosts .ensures)
 
 cover-assign-requires : (t : ℕ) → cover-lts.Need-assign-requires (cover-claims t) (cover-at t) cover.Post cover-Inv-loop cover-μ-loop
 cover-assign-requires t c κs = tt
@@ -158,98 +152,100 @@ cover-returns-2 t c =
     covering-all (l .before .groups-of .ensures) (l .loop .inv) (c .before .before .loop-test .left) (c .assign .ensures)
 
 decide-staffed-requires : (t : ℕ) → decide-lts.Need-staffed-requires (decide-claims t) (decide-at t) decide.Post
-decide-staffed-requires t c κs = let p = c .before .pre .1 in (p .masks, p .below)
+decide-staffed-requires t c κs = let p = c .before .before .pre .1 in (p .masks, p .below)
 
 decide-returns : (t : ℕ) → decide-lts.Need-returns (decide-claims t) (decide-at t) decide.Post
-decide-returns t c = decided-last (c .before .if1 .taken) (c .staffed .ensures)
+decide-returns t c = let e = c .before in decided-last (omega (arith, e .if1 .taken, e .before .before .pre .1 .deep)) (c .staffed .ensures)
 
 decide-cover-requires : (t : ℕ) → decide-lts.Need-cover-requires (decide-claims t) (decide-at t) decide.Post
-decide-cover-requires t c κs = (omega (arith, c .before .pre .0), (c .before .pre .1, c .if1 .left))
+decide-cover-requires t c κs = let p = c .before .before .pre in (omega (arith, p .0), (p .1, c .if1 .left))
 
 decide-returns-2 : (t : ℕ) → decide-lts.Need-returns-2 (decide-claims t) (decide-at t) decide.Post
-decide-returns-2 t c = decided-covering (c .before .if1 .left) (c .before .before .pre .1 .below) (c .cover .ensures)
+decide-returns-2 t c = let e = c .before in decided-covering (e .if1 .left) (e .before .before .pre .1 .below) (c .cover .ensures)
 
 abbrev hosts-Inv-loop : hosts-lts.InvT-loop
-hosts-Inv-loop levels may label crowd reach q g group people row found₀ rest₀ found rest = Hosting levels may label crowd reach q group row rest found
+hosts-Inv-loop may label crowd reach task g row found₀ rest₀ found rest = Hosting may label crowd reach task row rest found
 
 abbrev hosts-μ-loop : hosts-lts.MeasureT-loop
-hosts-μ-loop levels may label crowd reach q g group people row found₀ rest₀ found rest = rest
+hosts-μ-loop may label crowd reach task g row found₀ rest₀ found rest = rest
 
 hosts-candidates-requires : (t : ℕ) → hosts-lts.Need-candidates-requires (hosts-claims t) (hosts-at t) hosts.Post hosts-Inv-loop hosts-μ-loop
 hosts-candidates-requires t c κs = let p = c .pre .1 in (p .0 .reaches, omega arith, p .0 .below)
 
 hosts-add-if1 : (t : ℕ) → hosts-lts.Need-add-if1 (hosts-claims t) (hosts-at t) hosts.Post hosts-Inv-loop hosts-μ-loop
-hosts-add-if1 t c = let p = c .before .pre .1 in omega arith
+hosts-add-if1 t c = let p = c .before .before .pre .1 in omega arith
 
 hosts-returns : (t : ℕ) → hosts-lts.Need-returns (hosts-claims t) (hosts-at t) hosts.Post hosts-Inv-loop hosts-μ-loop
-hosts-returns t c = let p = c .before .before .pre .1 in hosted-last (p .0 .below) (p .1) (c .before .candidates .ensures) (c .if1 .taken)
+hosts-returns t c =
+    let r = c .before .before .before in
+    let p = r .before .pre .1 in
+    hosted-last (p .0 .below) (p .1) (r .candidates .ensures) (c .if1 .taken)
 
 hosts-without-requires : (t : ℕ) → hosts-lts.Need-without-requires (hosts-claims t) (hosts-at t) hosts.Post hosts-Inv-loop hosts-μ-loop
-hosts-without-requires t c κs = c .before .before .pre .1 .2
+hosts-without-requires t c κs = c .before .before .before .before .pre .1 .2
 
 hosts-returns-2 : (t : ℕ) → hosts-lts.Need-returns-2 (hosts-claims t) (hosts-at t) hosts.Post hosts-Inv-loop hosts-μ-loop
 hosts-returns-2 t c =
     let w = c .before in
-    let r = w .before .before in
+    let r = w .before .before .before .before in
     let p = r .before .pre .1 in
     hosted-single (p .0 .below) (p .1) (r .candidates .ensures) (w .without .result) (w .without .ensures) (c .if2 .taken)
 
 hosts-loop-holds : (t : ℕ) → hosts-lts.Need-loop-holds (hosts-claims t) (hosts-at t) hosts.Post hosts-Inv-loop hosts-μ-loop
 hosts-loop-holds t c = hosting-none
 
-hosts-lowest-requires : (t : ℕ) → hosts-lts.Need-lowest-requires (hosts-claims t) (hosts-at t) hosts.Post hosts-Inv-loop hosts-μ-loop
-hosts-lowest-requires t c κs = search needs
-
-hosts-without-requires-2 : (t : ℕ) → hosts-lts.Need-without-requires-2 (hosts-claims t) (hosts-at t) hosts.Post hosts-Inv-loop hosts-μ-loop
-hosts-without-requires-2 t c κs = search needs
+hosts-take-requires : (t : ℕ) → hosts-lts.Need-take-requires (hosts-claims t) (hosts-at t) hosts.Post hosts-Inv-loop hosts-μ-loop
+hosts-take-requires t c κs = search needs
 
 -- `crowd` has the people of class v
-hosts-index : (t : ℕ) (c : hosts-lts.After-without2 (hosts-claims t) (hosts-at t) hosts.Post hosts-Inv-loop hosts-μ-loop)
-    → c .before .before .before .before .before .before .before .before .args .q * 64 + c .before .lowest .result < 192
-hosts-index t c = let p = c .before .before .before .before .before .before .before .before .pre .1 in omega arith
+hosts-index : (t : ℕ) (c : hosts-lts.After-take (hosts-claims t) (hosts-at t) hosts.Post hosts-Inv-loop hosts-μ-loop)
+    → c .before .before .before .before .before .before .before .before .before .args .task .q * 64 + c .take .result .first < 192
+hosts-index t c = let p = c .before .before .before .before .before .before .before .before .before .pre .1 in omega (arith, c .take .ensures .0)
 
-hosts-add-decide : (t : ℕ) → hosts-lts.Need-add-decide (hosts-claims t) (hosts-at t) hosts.Post hosts-Inv-loop hosts-μ-loop
-hosts-add-decide t c = omega (arith, hosts-index t c)
+hosts-add-q : (t : ℕ) → hosts-lts.Need-add-q (hosts-claims t) (hosts-at t) hosts.Post hosts-Inv-loop hosts-μ-loop
+hosts-add-q t c = omega (arith, hosts-index t (c .before))
 
-hosts-mul-decide : (t : ℕ) → hosts-lts.Need-mul-decide (hosts-claims t) (hosts-at t) hosts.Post hosts-Inv-loop hosts-μ-loop
-hosts-mul-decide t c = omega (arith, hosts-index t c)
+hosts-mul-people : (t : ℕ) → hosts-lts.Need-mul-people (hosts-claims t) (hosts-at t) hosts.Post hosts-Inv-loop hosts-μ-loop
+hosts-mul-people t c = omega (arith, hosts-index t (c .before .before))
 
-hosts-add-decide-2 : (t : ℕ) → hosts-lts.Need-add-decide-2 (hosts-claims t) (hosts-at t) hosts.Post hosts-Inv-loop hosts-μ-loop
-hosts-add-decide-2 t c = omega (arith, hosts-index t c)
+hosts-add-people : (t : ℕ) → hosts-lts.Need-add-people (hosts-claims t) (hosts-at t) hosts.Post hosts-Inv-loop hosts-μ-loop
+hosts-add-people t c = omega (arith, hosts-index t (c .before .before))
 
-hosts-mul-decide-2 : (t : ℕ) → hosts-lts.Need-mul-decide-2 (hosts-claims t) (hosts-at t) hosts.Post hosts-Inv-loop hosts-μ-loop
-hosts-mul-decide-2 t c = omega (arith, hosts-index t c)
+hosts-mul-people-2 : (t : ℕ) → hosts-lts.Need-mul-people-2 (hosts-claims t) (hosts-at t) hosts.Post hosts-Inv-loop hosts-μ-loop
+hosts-mul-people-2 t c = omega (arith, hosts-index t (c .before .before))
 
-hosts-element-copy-out-decide : (t : ℕ) → hosts-lts.Need-element-copy-out-decide (hosts-claims t) (hosts-at t) hosts.Post hosts-Inv-loop hosts-μ-loop
-hosts-element-copy-out-decide t c = omega (arith, hosts-index t c)
+hosts-element-copy-out-people : (t : ℕ) → hosts-lts.Need-element-copy-out-people (hosts-claims t) (hosts-at t) hosts.Post hosts-Inv-loop hosts-μ-loop
+hosts-element-copy-out-people t c = omega (arith, hosts-index t (c .before .before))
 
 hosts-decide-requires : (t : ℕ) → hosts-lts.Need-decide-requires (hosts-claims t) (hosts-at t) hosts.Post hosts-Inv-loop hosts-μ-loop
-hosts-decide-requires t c κs = let p = c .before .before .before .before .before .before .before .before .before .pre in (omega arith, p .1 .0)
+hosts-decide-requires t c κs =
+    let p = c .before .before .before .before .before .before .before .before .before .before .before .before .pre in
+    (omega arith, p .1 .0)
 
 hosts-loop-less : (t : ℕ) → hosts-lts.Need-loop-less (hosts-claims t) (hosts-at t) hosts.Post hosts-Inv-loop hosts-μ-loop
-hosts-loop-less t c = let r = c .before .before .before in lowest-less (r .before .lowest .ensures .1) (r .without2 .ensures)
+hosts-loop-less t c = c .before .before .before .before .before .take .ensures .1 .less
 
 hosts-loop-again : (t : ℕ) → hosts-lts.Need-loop-again (hosts-claims t) (hosts-at t) hosts.Post hosts-Inv-loop hosts-μ-loop
 hosts-loop-again t c =
-    let r = c .before .before .before in
-    hosting-skip (r .before .before .before .loop .inv) (r .before .lowest .ensures .1) (r .without2 .ensures) (c .before .decide .ensures) (not-true _ (c .if3 .taken))
+    let g = c .before .before .before .before .before in
+    hosting-skip (g .before .before .loop .inv) (g .take .ensures .1) (c .before .decide .ensures) (not-true _ (c .if3 .taken))
 
 hosts-with-requires : (t : ℕ) → hosts-lts.Need-with-requires (hosts-claims t) (hosts-at t) hosts.Post hosts-Inv-loop hosts-μ-loop
 hosts-with-requires t c κs = search needs
 
 hosts-loop-less-2 : (t : ℕ) → hosts-lts.Need-loop-less-2 (hosts-claims t) (hosts-at t) hosts.Post hosts-Inv-loop hosts-μ-loop
-hosts-loop-less-2 t c = let r = c .before .before .before .before in lowest-less (r .before .lowest .ensures .1) (r .without2 .ensures)
+hosts-loop-less-2 t c = c .before .before .before .before .before .before .take .ensures .1 .less
 
 hosts-loop-again-2 : (t : ℕ) → hosts-lts.Need-loop-again-2 (hosts-claims t) (hosts-at t) hosts.Post hosts-Inv-loop hosts-μ-loop
 hosts-loop-again-2 t c =
     let d = c .before .before in
-    let r = d .before .before in
-    hosting-take (r .before .before .before .loop .inv) (r .before .lowest .ensures .1) (r .without2 .ensures) (d .decide .ensures) (not-false _ (c .before .if3 .left)) (c .with .ensures)
+    let g = d .before .before .before .before in
+    hosting-take (g .before .before .loop .inv) (g .take .ensures .1) (d .decide .ensures) (not-false _ (c .before .if3 .left)) (c .with .ensures)
 
 hosts-returns-3 : (t : ℕ) → hosts-lts.Need-returns-3 (hosts-claims t) (hosts-at t) hosts.Post hosts-Inv-loop hosts-μ-loop
 hosts-returns-3 t c =
     let l = c .before in
-    let r = l .before .before .before .before in
+    let r = l .before .before .before .before .before .before in
     let p = r .before .pre .1 in
     hosted-tried (p .0 .below) (p .1) (r .candidates .ensures) (l .loop .inv) (c .loop-test .left)
 
@@ -257,13 +253,13 @@ pub +cover+decide+hosts-spec : {M : Type 1} → statement M
 +cover+decide+hosts-spec =
     close μ-cover μ-decide μ-hosts
     (λ t. cover-lts.spec (cover-claims t) (cover-at t) cover.Post cover-Inv-loop cover-μ-loop
-    (cover-groups-of-requires t) (cover-loop-holds t) (cover-lowest-requires t) (cover-without-requires t) (cover-cast-members t)
+    (cover-groups-of-requires t) (cover-loop-holds t) (cover-take-requires t) (cover-cast-members t)
     (cover-members-requires t) (cover-hosts-requires t) (cover-returns t) (cover-mul-edges t) (cover-array-write-edges t) (cover-loop-less t)
     (cover-loop-again t) (cover-assign-requires t) (cover-returns-2 t))
     (λ t. decide-lts.spec (decide-claims t) (decide-at t) decide.Post
     (decide-staffed-requires t) (decide-returns t) (decide-cover-requires t) (decide-returns-2 t))
     λ t. hosts-lts.spec (hosts-claims t) (hosts-at t) hosts.Post hosts-Inv-loop hosts-μ-loop
     (hosts-candidates-requires t) (hosts-add-if1 t) (hosts-returns t) (hosts-without-requires t) (hosts-returns-2 t) (hosts-loop-holds t)
-    (hosts-lowest-requires t) (hosts-without-requires-2 t) (hosts-add-decide t) (hosts-mul-decide t) (hosts-add-decide-2 t) (hosts-mul-decide-2 t)
-    (hosts-element-copy-out-decide t) (hosts-decide-requires t) (hosts-loop-less t) (hosts-loop-again t) (hosts-with-requires t)
+    (hosts-take-requires t) (hosts-add-q t) (hosts-mul-people t) (hosts-add-people t) (hosts-mul-people-2 t)
+    (hosts-element-copy-out-people t) (hosts-decide-requires t) (hosts-loop-less t) (hosts-loop-again t) (hosts-with-requires t)
     (hosts-loop-less-2 t) (hosts-loop-again-2 t) (hosts-returns-3 t)

@@ -4,7 +4,7 @@ use Prim.Native.Nat.{_<_}
 use native.Mathlib.Omega.{arith}
 use borrow.Author.Needs.{needs}
 use Rattle.realize.specs.Decision.{Candidates}
-use Rattle.bits.proofs.Masks.{part-below, lowest-less}
+use Rattle.bits.proofs.Masks.{taken-below}
 use Rattle.realize.proofs.Rows.{candidates-none, candidates-next, candidates-all}
 use Rattle.realize.proofs.decision.candidates.Statement.{statement}
 use Rattle.realize.proofs.decision.candidates.Tie as tie
@@ -18,15 +18,12 @@ abbrev μ-loop : tie.MeasureT-loop
 loop-holds : tie.Need-loop-holds Inv-loop μ-loop
 loop-holds c = candidates-none (c .args .reach .now) (c .args .q) (c .args .group) (c .args .people)
 
-lowest-requires : tie.Need-lowest-requires Inv-loop μ-loop
-lowest-requires c κs = search needs
-
-without-requires : tie.Need-without-requires Inv-loop μ-loop
-without-requires c κs = search needs
+take-requires : tie.Need-take-requires Inv-loop μ-loop
+take-requires c κs = search needs
 
 -- the step of a turn
-below : (c : tie.After-without Inv-loop μ-loop) → c .before .lowest .result < 12
-below c = let l = c .before .before .before in part-below 12 (l .before .args .group) _ _ (l .before .pre .2) (l .loop .inv .part) (c .before .lowest .ensures .1)
+below : (c : tie.After-take Inv-loop μ-loop) → c .take .result .first < 12
+below c = let l = c .before .before in taken-below (c .take .ensures .1) 12 (l .before .args .group) (l .before .pre .2) (l .loop .inv .part)
 
 mul-found : tie.Need-mul-found Inv-loop μ-loop
 mul-found c = omega arith
@@ -41,27 +38,15 @@ element-copy-out-found : tie.Need-element-copy-out-found Inv-loop μ-loop
 element-copy-out-found c = omega (arith, below c)
 
 loop-less : tie.Need-loop-less Inv-loop μ-loop
-loop-less c = lowest-less (c .before .before .lowest .ensures .1) (c .before .without .ensures)
+loop-less c = c .before .take .ensures .1 .less
 
 loop-again : tie.Need-loop-again Inv-loop μ-loop
-loop-again c = candidates-next (c .before .before .before .before .loop .inv) (c .before .before .lowest .ensures .1) (c .before .without .ensures)
+loop-again c = let t = c .before in candidates-next (t .before .before .loop .inv) (t .take .ensures .1)
 
 returns : tie.Need-returns Inv-loop μ-loop
 returns c = candidates-all (c .before .loop .inv) (c .loop-test .left)
 
 pub candidates-spec : {M : Type 1} → statement M
 candidates-spec =
-    tie.close
-    (tie.spec
-    Inv-loop
-    μ-loop
-    loop-holds
-    lowest-requires
-    without-requires
-    mul-found
-    add-found
-    mul-found-2
-    element-copy-out-found
-    loop-less
-    loop-again
+    tie.close (tie.spec Inv-loop μ-loop loop-holds take-requires mul-found add-found mul-found-2 element-copy-out-found loop-less loop-again
     returns)

@@ -3,7 +3,6 @@
 use native.Mathlib.Omega.{arith}
 use borrow.Author.Needs.{needs}
 use Rattle.realize.specs.Parts.{Names}
-use Rattle.bits.proofs.Masks.{lowest-less}
 use Rattle.realize.proofs.Reach.{names-none, names-next, names-all}
 use Rattle.realize.proofs.tables.names.Statement.{statement}
 use Rattle.realize.proofs.tables.names.Tie as tie
@@ -17,11 +16,8 @@ abbrev μ-loop : tie.MeasureT-loop
 loop-holds : tie.Need-loop-holds Inv-loop μ-loop
 loop-holds c = names-none (c .args .class .now) (c .args .q) (c .args .people)
 
-lowest-requires : tie.Need-lowest-requires Inv-loop μ-loop
-lowest-requires c κs = search needs
-
-without-requires : tie.Need-without-requires Inv-loop μ-loop
-without-requires c κs = search needs
+take-requires : tie.Need-take-requires Inv-loop μ-loop
+take-requires c κs = search needs
 
 mul-with : tie.Need-mul-with Inv-loop μ-loop
 mul-with c = omega arith
@@ -39,30 +35,15 @@ with-requires : tie.Need-with-requires Inv-loop μ-loop
 with-requires c κs = omega arith
 
 loop-less : tie.Need-loop-less Inv-loop μ-loop
-loop-less c = lowest-less (c .before .before .before .lowest .ensures .1) (c .before .before .without .ensures)
+loop-less c = c .before .before .take .ensures .1 .less
 
 loop-again : tie.Need-loop-again Inv-loop μ-loop
-loop-again c =
-    let g = c .before .before .before in
-    names-next (g .before .before .loop .inv) (g .lowest .ensures .1) (c .before .before .without .ensures) (c .with .ensures)
+loop-again c = let t = c .before .before in names-next (t .before .before .loop .inv) (t .take .ensures .1) (c .with .ensures)
 
 returns : tie.Need-returns Inv-loop μ-loop
 returns c = names-all (c .before .loop .inv) (c .loop-test .left)
 
 pub names-spec : {M : Type 1} → statement M
 names-spec =
-    tie.close
-    (tie.spec
-    Inv-loop
-    μ-loop
-    loop-holds
-    lowest-requires
-    without-requires
-    mul-with
-    add-with
-    element-copy-out-with
-    cast-with
-    with-requires
-    loop-less
-    loop-again
-    returns)
+    tie.close (tie.spec Inv-loop μ-loop loop-holds take-requires mul-with add-with element-copy-out-with cast-with with-requires loop-less
+    loop-again returns)

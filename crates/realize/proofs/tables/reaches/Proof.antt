@@ -61,19 +61,5 @@ returns c =
 
 pub reaches-spec : {M : Type 1} → statement M
 reaches-spec =
-    tie.close
-    (tie.spec
-    Inv-loop
-    μ-loop
-    below-requires
-    mul-x-end
-    loop-holds
-    mul-names
-    element-copy-out-names
-    names-requires
-    mul-reach
-    array-write-reach
-    add-x
-    loop-less
-    loop-again
-    returns)
+    tie.close (tie.spec Inv-loop μ-loop below-requires mul-x-end loop-holds mul-names element-copy-out-names names-requires mul-reach
+    array-write-reach add-x loop-less loop-again returns)

@@ -1,12 +1,11 @@
 -- `relax::bound::ranks` meets its contract. The loop's invariant: the fine classes that the people passed name are counted. Assumes nothing.
 use Prim.Native.Nat.{_-_, _≤_, _<_}
 use native.Mathlib.Omega.{arith}
+use lib.ListN.{getD}
 use Rattle.pattern.specs.Tables.{classIn}
 use Rattle.relax.proofs.Tallying.{Ranking, ranking-none, ranking-past, ranking-more, next-few, count-few, ranked}
 use Rattle.relax.proofs.bound.ranks.Statement.{statement}
 use Rattle.relax.proofs.bound.ranks.Tie as tie
-use Rattle.relax.proofs.bound.ranks.Reads as reads
-use Rattle.relax.proofs.bound.ranks.Lts as lts
 
 abbrev Inv-loop : tie.InvT-loop
 Inv-loop people class coarse fine sizes₀ counts₀ p₀ sizes counts p = (p ≤ people) × Ranking p (classIn class coarse) (classIn class fine) sizes counts
@@ -55,52 +54,53 @@ add-v c = omega arith
 element-copy-out-v : tie.Need-element-copy-out-v Inv-loop μ-loop
 element-copy-out-v c = omega arith
 
+-- the coarse class of a turn is that of a person
+inner : (c : tie.After-v Inv-loop μ-loop)
+    → let l = c .before .before .before .before in let a = l .before .args in classIn (a .class .now) (a .coarse) (l .loop .p) < 64
+inner c = let t = c .before .before .before in omega (arith, t .before .before .pre .6 .coarse-below (t .before .loop .p) (t .loop-test .taken))
+
+-- and the number that the fine class gets in it is small
+number : (c : tie.After-v Inv-loop μ-loop)
+    → let l = c .before .before .before .before in let a = l .before .args in getD (l .loop .sizes) (classIn (a .class .now) (a .coarse) (l .loop .p)) 0 < 64
+number c =
+    let l = c .before .before .before .before in
+    let a = l .before .args in
+    next-few (classIn (a .class .now) (a .coarse)) (classIn (a .class .now) (a .fine)) (l .loop .p) (l .loop .sizes) (l .loop .counts) (l .loop .inv .1)
+    (omega arith) (c .before .if1 .left) (inner c)
+
 cast-v : tie.Need-cast-v Inv-loop μ-loop
-cast-v c = omega (arith, c .before .before .before .before .before .pre .6 .coarse-below (c .before .before .before .before .loop .p) (c .before .before .before .loop-test .taken))
+cast-v c = omega (arith, inner c)
 
 array-read-r : tie.Need-array-read-r Inv-loop μ-loop
-array-read-r c = omega (arith, c .before .before .before .before .before .pre .6 .coarse-below (c .before .before .before .before .loop .p) (c .before .before .before .loop-test .taken))
+array-read-r c = inner c
 
 cast-r : tie.Need-cast-r Inv-loop μ-loop
-cast-r c =
-    let a = c .before .before .before .before .before .args in
-    let l = c .before .before .before .before .loop in
-    let i : classIn (a .class .now) (a .coarse) (l .p) < 64 = omega (arith, c .before .before .before .before .before .pre .6 .coarse-below (c .before .before .before .before .loop .p) (c .before .before .before .loop-test .taken)) in
-    omega (arith, next-few (classIn (a .class .now) (a .coarse)) (classIn (a .class .now) (a .fine)) (l .p) (l .sizes) (l .counts) (l .inv .1) (omega arith) (c .before .if1 .left) i)
+cast-r c = omega (arith, number c)
 
 array-read-sizes : tie.Need-array-read-sizes Inv-loop μ-loop
-array-read-sizes c = omega (arith, c .before .before .before .before .before .pre .6 .coarse-below (c .before .before .before .before .loop .p) (c .before .before .before .loop-test .taken))
+array-read-sizes c = inner c
 
 add-sizes : tie.Need-add-sizes Inv-loop μ-loop
-add-sizes c =
-    let a = c .before .before .before .before .before .args in
-    let l = c .before .before .before .before .loop in
-    let i : classIn (a .class .now) (a .coarse) (l .p) < 64 = omega (arith, c .before .before .before .before .before .pre .6 .coarse-below (c .before .before .before .before .loop .p) (c .before .before .before .loop-test .taken)) in
-    omega (arith, next-few (classIn (a .class .now) (a .coarse)) (classIn (a .class .now) (a .fine)) (l .p) (l .sizes) (l .counts) (l .inv .1) (omega arith) (c .before .if1 .left) i)
+add-sizes c = omega (arith, number c)
 
 array-write-sizes : tie.Need-array-write-sizes Inv-loop μ-loop
-array-write-sizes c = omega (arith, c .before .before .before .before .before .pre .6 .coarse-below (c .before .before .before .before .loop .p) (c .before .before .before .loop-test .taken))
+array-write-sizes c = inner c
 
 array-read-counts : tie.Need-array-read-counts Inv-loop μ-loop
-array-read-counts c =
-    let a = c .before .before .before .before .before .args in
-    let l = c .before .before .before .before .loop in
-    let i : classIn (a .class .now) (a .coarse) (l .p) < 64 = omega (arith, c .before .before .before .before .before .pre .6 .coarse-below (c .before .before .before .before .loop .p) (c .before .before .before .loop-test .taken)) in
-    omega (arith, next-few (classIn (a .class .now) (a .coarse)) (classIn (a .class .now) (a .fine)) (l .p) (l .sizes) (l .counts) (l .inv .1) (omega arith) (c .before .if1 .left) i)
+array-read-counts c = omega (arith, number c)
 
 add-counts : tie.Need-add-counts Inv-loop μ-loop
 add-counts c =
-    let a = c .before .before .before .before .before .args in
-    let l = c .before .before .before .before .loop in
-    let i : classIn (a .class .now) (a .coarse) (l .p) < 64 = omega (arith, c .before .before .before .before .before .pre .6 .coarse-below (c .before .before .before .before .loop .p) (c .before .before .before .loop-test .taken)) in
-    omega (arith, count-few (classIn (a .class .now) (a .coarse)) (classIn (a .class .now) (a .fine)) (l .p) (l .sizes) (l .counts) (l .inv .1) (omega arith) (c .before .if1 .left) i _ (next-few (classIn (a .class .now) (a .coarse)) (classIn (a .class .now) (a .fine)) (l .p) (l .sizes) (l .counts) (l .inv .1) (omega arith) (c .before .if1 .left) i))
+    let l = c .before .before .before .before in
+    let a = l .before .args in
+    omega (
+      arith,
+      count-few (classIn (a .class .now) (a .coarse)) (classIn (a .class .now) (a .fine)) (l .loop .p) (l .loop .sizes) (l .loop .counts)
+          (l .loop .inv .1) (omega arith) (c .before .if1 .left) (inner c) _ (number c),
+    )
 
 array-write-counts : tie.Need-array-write-counts Inv-loop μ-loop
-array-write-counts c =
-    let a = c .before .before .before .before .before .args in
-    let l = c .before .before .before .before .loop in
-    let i : classIn (a .class .now) (a .coarse) (l .p) < 64 = omega (arith, c .before .before .before .before .before .pre .6 .coarse-below (c .before .before .before .before .loop .p) (c .before .before .before .loop-test .taken)) in
-    omega (arith, next-few (classIn (a .class .now) (a .coarse)) (classIn (a .class .now) (a .fine)) (l .p) (l .sizes) (l .counts) (l .inv .1) (omega arith) (c .before .if1 .left) i)
+array-write-counts c = omega (arith, number c)
 
 add-p-2 : tie.Need-add-p-2 Inv-loop μ-loop
 add-p-2 c = omega arith
@@ -110,10 +110,12 @@ loop-less-2 c = omega arith
 
 loop-again-2 : tie.Need-loop-again-2 Inv-loop μ-loop
 loop-again-2 c =
-    let a = c .before .before .before .before .before .args in
-    let l = c .before .before .before .before .loop in
-    let i : classIn (a .class .now) (a .coarse) (l .p) < 64 = omega (arith, c .before .before .before .before .before .pre .6 .coarse-below (c .before .before .before .before .loop .p) (c .before .before .before .loop-test .taken)) in
-    (omega arith, ranking-more (classIn (a .class .now) (a .coarse)) (classIn (a .class .now) (a .fine)) (l .p) (l .sizes) (l .counts) (l .inv .1) (omega arith) (c .before .if1 .left) i)
+    let l = c .before .before .before .before in
+    let a = l .before .args in (
+      omega arith,
+      ranking-more (classIn (a .class .now) (a .coarse)) (classIn (a .class .now) (a .fine)) (l .loop .p) (l .loop .sizes) (l .loop .counts) (l .loop .inv .1)
+          (omega arith) (c .before .if1 .left) (inner c),
+    )
 
 returns : tie.Need-returns Inv-loop μ-loop
 returns c =

@@ -20,7 +20,12 @@ same-length : tie.Need-same-length
 same-length c = search needs
 
 returns : tie.Need-returns
-returns c = put-four-numbers _ _ _ _ _ (c .before .before .before .before .before .before .before .before .before .before .before .before .before .before .before .before .before .pre) _ _ _ _ (c .before .before .before .before .before .before .before .before .before .before .before .before .before .before .put-long .ensures) (c .before .before .before .before .before .before .before .before .before .before .put-long2 .ensures) (c .before .before .before .before .before .before .put-long3 .ensures) (c .before .before .put-long4 .ensures)
+returns c =
+    let d = c .before .before in
+    let e = d .before .before .before .before in
+    let f = e .before .before .before .before in
+    let g = f .before .before .before .before in
+    put-four-numbers _ _ _ _ _ (g .before .before .before .pre) _ _ _ _ (g .put-long .ensures) (f .put-long2 .ensures) (e .put-long3 .ensures) (d .put-long4 .ensures)
 
 pub put-four-spec : {M : Type 1} → statement M
 put-four-spec =

@@ -9,8 +9,11 @@ use Rattle.resiliency.proofs.call.write_count.Tie as tie
 enum-told : tie.Need-enum-told
 enum-told c = search needs
 
+returned-requires : tie.Need-returned-requires
+returned-requires c κs = search needs
+
 returns : tie.Need-returns
-returns c = left-none _ _ [] _ _ (c .enum-told .given .1)
+returns c = left-none _ _ [] _ _ _ (c .returned .ensures) (c .before .enum-told .given .1)
 
 enum-told-2 : tie.Need-enum-told-2
 enum-told-2 c = search needs
@@ -101,6 +104,7 @@ write-count-spec =
     tie.close
     (tie.spec
     enum-told
+    returned-requires
     returns
     enum-told-2
     put-four-requires

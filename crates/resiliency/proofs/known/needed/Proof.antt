@@ -1,8 +1,8 @@
 -- The invariant: those who are not in the rest are lacked by a plan taken, and the plans left are of the word. Assumes nothing.
 use native.Mathlib.Omega.{arith}
-use Rattle.bits.proofs.SetLaws.{removed-less}
+use Rattle.bits.proofs.Masks.{taken-was}
 use Rattle.resiliency.specs.Known.{Needed}
-use Rattle.resiliency.proofs.Knowing.{Part, part-next, needed-start, needed-more}
+use Rattle.resiliency.proofs.Knowing.{Part, needed-start, needed-more}
 use Rattle.resiliency.proofs.known.needed.Statement.{statement}
 use Rattle.resiliency.proofs.known.needed.Tie as tie
 
@@ -18,23 +18,23 @@ loop-holds c = (λ i h. h, needed-start _ _ _)
 returns : tie.Need-returns Inv-loop μ-loop
 returns c = c .before .before .loop .inv .1
 
-lowest-requires : tie.Need-lowest-requires Inv-loop μ-loop
-lowest-requires c κs = c .if1 .left
-
-without-requires : tie.Need-without-requires Inv-loop μ-loop
-without-requires c κs = c .lowest .ensures .0
+take-requires : tie.Need-take-requires Inv-loop μ-loop
+take-requires c κs = c .if1 .left
 
 mul-rest : tie.Need-mul-rest Inv-loop μ-loop
-mul-rest c = omega (arith, c .before .lowest .ensures .0)
+mul-rest c = omega (arith, c .take .ensures .0)
 
 element-copy-out-rest : tie.Need-element-copy-out-rest Inv-loop μ-loop
-element-copy-out-rest c = omega (arith, c .before .lowest .ensures .0, c .before .before .before .before .before .pre)
+element-copy-out-rest c = omega (arith, c .take .ensures .0, c .before .before .before .before .pre)
 
 loop-less : tie.Need-loop-less Inv-loop μ-loop
-loop-less c = removed-less (c .before .before .lowest .ensures .1 .has) (c .before .without .ensures)
+loop-less c = c .before .take .ensures .1 .less
 
 loop-again : tie.Need-loop-again Inv-loop μ-loop
-loop-again c = (part-next _ (c .before .before .before .before .before .loop .inv .0) (c .before .without .ensures), needed-more _ _ _ _ _ (c .before .before .lowest .ensures .0) (c .before .before .before .before .before .loop .inv .0 (c .before .before .lowest .result) (c .before .before .lowest .ensures .1 .has)) (c .before .before .before .before .before .loop .inv .1))
+loop-again c =
+    let t = c .before .take .ensures in
+    let v = c .before .before .before .before .loop .inv in
+    (λ i h. v .0 i (taken-was (t .1) i h), needed-more _ _ _ _ _ (t .0) (v .0 _ (t .1 .lowest .has)) (v .1))
 
 returns-2 : tie.Need-returns-2 Inv-loop μ-loop
 returns-2 c = c .before .loop .inv .1
@@ -47,8 +47,7 @@ needed-spec =
     μ-loop
     loop-holds
     returns
-    lowest-requires
-    without-requires
+    take-requires
     mul-rest
     element-copy-out-rest
     loop-less

@@ -21,8 +21,8 @@ exists-requires c κs = search needs
 returns : tie.Need-returns
 returns c = search needs
 
-apart-requires : tie.Need-apart-requires
-apart-requires c κs = search needs
+fresh-requires : tie.Need-fresh-requires
+fresh-requires c κs = search needs
 
 attempt-requires : tie.Need-attempt-requires
 attempt-requires c κs = search needs
@@ -38,10 +38,12 @@ returns-2 c = search needs
 
 returns-3 : tie.Need-returns-3
 returns-3 c =
-    let s = c .before .before .before .before .before .before .before .before .before .before in
-    let t = c .before .before .attempt in (
-      existence-apart _ _ _ _ _ _ 12 (s .pre .0 .given .ruled .few-steps) (t .ensures .1) (c .before .before .before .before .before .apart .ensures) (subst (Trial _ _ _ _) (c .enum-told .given .1) (t .ensures .0)),
-      s .pre .3,
+    let t = c .before .before in
+    let f = t .before .before .before .before .before .before .before .before in
+    let p = f .before .before .before .before .before .pre in (
+      existence-apart _ _ _ _ _ _ 12 (p .0 .tabled .given .ruled .few-steps) (t .attempt .ensures .1) (f .fresh .ensures)
+          (subst (Trial _ _ _ _) (c .enum-told .given .1) (t .attempt .ensures .0)),
+      p .3,
     )
 
 pub varied-spec : {M : Type 1} → statement M
@@ -53,7 +55,7 @@ varied-spec =
     people-at-requires-3
     exists-requires
     returns
-    apart-requires
+    fresh-requires
     attempt-requires
     enum-told
     exists-requires-2

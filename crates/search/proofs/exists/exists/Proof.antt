@@ -6,6 +6,10 @@ use Rattle.search.proofs.Attempt.{existence-found, existence-none}
 use Rattle.search.proofs.exists.exists.Statement.{statement}
 use Rattle.search.proofs.exists.exists.Tie as tie
 
+-- where the call begins
+abbrev start : tie.After-attempt → tie.Start
+start c = c .before .before .before .before .before .before .before
+
 attempt-requires : tie.Need-attempt-requires
 attempt-requires c κs = search needs
 
@@ -15,7 +19,7 @@ enum-told c = search needs
 returns : tie.Need-returns
 returns c =
     let t = c .before .before in
-    (existence-found _ _ _ _ _ (t .attempt .ensures .1) (subst (Trial _ _ _ _) (c .enum-told .given .1) (t .attempt .ensures .0)), t .before .before .pre .2)
+    (existence-found _ _ _ _ _ (t .attempt .ensures .1) (subst (Trial _ _ _ _) (c .enum-told .given .1) (t .attempt .ensures .0)), start t .pre .2)
 
 enum-told-2 : tie.Need-enum-told-2
 enum-told-2 c = search needs
@@ -23,7 +27,7 @@ enum-told-2 c = search needs
 returns-2 : tie.Need-returns-2
 returns-2 c =
     let t = c .before .before in
-    let p = t .before .before .pre in
+    let p = start t .pre in
     (existence-none _ _ _ _ _ (p .3) (subst (Trial _ _ _ _) (c .enum-told2 .given .1) (t .attempt .ensures .0)), p .2)
 
 enum-told-3 : tie.Need-enum-told-3

@@ -16,7 +16,7 @@ realizable-requires : tie.Need-realizable-requires
 realizable-requires c κs =
     let a = c .before .before .args in
     let p = c .before .before .pre in
-    (sized (p .0) (a .may .now) (a .placed) (a .label .now) (p .1) (p .2) (p .3), p .0 .few-people)
+    (sized (p .0) (a .may .now) (a .placed) (a .label .now) (p .1) (p .2) (p .3 .sized), p .0 .few-people)
 
 returns-2 : tie.Need-returns-2
 returns-2 c =

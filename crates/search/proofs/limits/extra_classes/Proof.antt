@@ -19,11 +19,8 @@ loop-holds c = (omega arith, taking-none (c .args .all) 18446744073709551615)
 returns : tie.Need-returns Inv-loop μ-loop
 returns c = too-few (c .before .before .before .args .all) (c .before .before .before .args .spare) 0
 
-lowest-requires : tie.Need-lowest-requires Inv-loop μ-loop
-lowest-requires c κs = search needs
-
-without-requires : tie.Need-without-requires Inv-loop μ-loop
-without-requires c κs = search needs
+take-requires : tie.Need-take-requires Inv-loop μ-loop
+take-requires c κs = search needs
 
 with-requires : tie.Need-with-requires Inv-loop μ-loop
 with-requires c κs = search needs
@@ -36,8 +33,8 @@ loop-less c = omega arith
 
 loop-again : tie.Need-loop-again Inv-loop μ-loop
 loop-again c =
-    let low = c .before .before .lowest .ensures in
-    (omega arith, taking-more (c .before .before .before .before .before .loop .inv .1) (low .0) (low .1) (c .before .without .ensures) (c .with .ensures))
+    let t = c .before .take .ensures in
+    (omega arith, taking-more (c .before .before .before .before .loop .inv .1) (t .0) (t .1 .lowest) (t .1 .removed) (c .with .ensures))
 
 returns-2 : tie.Need-returns-2 Inv-loop μ-loop
 returns-2 c = taken (c .before .before .args .spare) (c .before .loop .inv .0) (c .loop-test .left) (c .before .loop .inv .1)
@@ -50,8 +47,7 @@ extra-classes-spec =
     μ-loop
     loop-holds
     returns
-    lowest-requires
-    without-requires
+    take-requires
     with-requires
     add-i
     loop-less

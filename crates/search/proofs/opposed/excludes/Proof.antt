@@ -1,12 +1,11 @@
 -- `search::opposed::excludes` meets its contract. Assumes nothing.
-use mathlib.Core.Bool.{true, not, _&&_}
-use mathlib.Core.Path.{_≡_, refl, sym, _∙_, ap, ap₂}
-use Prim.Native.Nat.{ℕ, _+_, _<_}
+use mathlib.Core.Bool.{not, _&&_}
+use mathlib.Core.Path.{refl, sym, subst, _∙_, ap₂}
+use Prim.Native.Nat.{ℕ, _+_, _^_, _<_}
 use native.Mathlib.Omega.{arith}
 use borrow.Author.Needs.{needs}
 use borrow.Author.Tests.{ltb-true}
 use Rattle.bits.proofs.Below.{true-false}
-use Rattle.bits.proofs.Counting.{count-le}
 use Rattle.bits.specs.Below.{count}
 use Rattle.bits.specs.Word.{hasBit}
 use Rattle.search.proofs.opposed.excludes.Statement.{statement}
@@ -46,16 +45,7 @@ most-requires : tie.Need-most-requires
 most-requires c κs = search needs
 
 add-result : tie.Need-add-result
-add-result c =
-    let o = c .before in
-    let a = o .before .before .before .before .before .before .before .before .args in
-    omega (
-      arith,
-      c .most .ensures .1,
-      o .open-count .ensures,
-      count-le (a .size .steps) (λ s. hasBit (o .before .before .scope .result) s && not (hasBit (o .before .scope2 .result) s)),
-      o .before .before .before .before .before .before .before .before .pre .0 .few-steps,
-    )
+add-result c = omega (arith, c .most .ensures .1, c .before .open-count .ensures .0)
 
 least-requires : tie.Need-least-requires
 least-requires c κs = search needs
@@ -63,18 +53,20 @@ least-requires c κs = search needs
 returns-2 : tie.Need-returns-2
 returns-2 c =
     let o = c .before .before in
-    let s = o .before .before .before .before .before .before .before .before in
-    let a = s .args in
+    let a = o .before .before .before .before .before .before .before .before .args in
     let l = o .before .before .before .before in
-    let n : ℕ → ℕ → ℕ = λ x y. count (a .size .steps) (λ t. hasBit x t && not (hasBit y t)) in
-    λ e.
+    let p = o .before .before .scope in
+    λ e rules i k steps within.
     let less : c .before .most .result + o .open-count .result < c .least .result = ltb-true _ _ e in
-    let z = o .open-count .ensures ∙ ap₂ n (o .before .before .scope .ensures) (o .before .scope2 .ensures) in
+    let n : ℕ → ℕ → ℕ = λ x y. count steps (λ t. hasBit x t && not (hasBit y t)) in
+    let z = o .open-count .ensures .1 steps (subst (λ (x : ℕ). x < 2 ^ steps) (sym (p .ensures)) (within (a .k) k))
+    ∙ ap₂ n (p .ensures) (o .before .scope2 .ensures)
+    in
     record {
       upper = a .i;
       lower = a .k;
-      upper-below = s .pre .1;
-      lower-below = s .pre .2;
+      upper-below = i;
+      lower-below = k;
       same = sym (l .before .level .ensures .0) ∙ o .before .before .before .if1 .left ∙ l .level2 .ensures .0;
       fewer = omega (arith, less, z, c .before .most .ensures .0, c .least .ensures .0);
     }

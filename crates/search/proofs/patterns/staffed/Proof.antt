@@ -13,6 +13,10 @@ Inv-loop steps people may s₀ s = (s ≤ steps) × AllStaffed s people may
 abbrev μ-loop : tie.MeasureT-loop
 μ-loop steps people may s₀ s = steps - s
 
+-- the turn of a test
+abbrev turn : tie.After-foremost Inv-loop μ-loop → tie.In-loop Inv-loop μ-loop
+turn c = c .before .before
+
 loop-holds : tie.Need-loop-holds Inv-loop μ-loop
 loop-holds c = (omega arith, λ s l. absurd (omega arith))
 
@@ -27,8 +31,10 @@ foremost-requires c κs = tt
 
 returns : tie.Need-returns Inv-loop μ-loop
 returns c =
-    let a = c .before .before .before .before .before .args in
-    foremost-nobody (a .steps) (a .people) (c .before .before .before .before .loop .s) (c .before .foremost .result) (a .may .now) (c .before .foremost .ensures) (c .if1 .taken) (c .before .before .before .loop-test .taken)
+    let f = c .before in
+    let l = turn f .before in
+    let a = l .before .args in
+    foremost-nobody (a .steps) (a .people) (l .loop .s) (f .foremost .result) (a .may .now) (f .foremost .ensures) (c .if1 .taken) (turn f .loop-test .taken)
 
 add-s : tie.Need-add-s Inv-loop μ-loop
 add-s c = omega arith
@@ -37,7 +43,9 @@ loop-less : tie.Need-loop-less Inv-loop μ-loop
 loop-less c = omega arith
 
 loop-again : tie.Need-loop-again Inv-loop μ-loop
-loop-again c = (omega arith, below-more _ _ (c .before .before .before .before .loop .inv .1) (foremost-person (c .before .foremost .ensures) (c .before .before .before .before .before .args .people) (c .before .before .before .before .before .pre .1) (c .if1 .left)))
+loop-again c =
+    let l = turn (c .before) .before in
+    (omega arith, below-more _ _ (l .loop .inv .1) (foremost-person (c .before .foremost .ensures) (l .before .args .people) (l .before .pre .1) (c .if1 .left)))
 
 returns-2 : tie.Need-returns-2 Inv-loop μ-loop
 returns-2 c s l = c .before .loop .inv .1 s (omega arith)

@@ -6,6 +6,10 @@ use borrow.Author.Needs.{needs}
 use Rattle.search.proofs.place.joins.Statement.{statement}
 use Rattle.search.proofs.place.joins.Tie as tie
 
+-- where the call begins
+abbrev start : tie.After-has → tie.Start
+start c = c .before .before
+
 returns : tie.Need-returns
 returns c = joins-none (c .before .args .placed) (c .before .args .label .now) (c .before .args .t) (c .before .args .d) (c .if1 .taken)
 
@@ -14,8 +18,9 @@ has-requires c κs = search needs
 
 returns-2 : tie.Need-returns-2
 returns-2 c =
-    let a = c .before .before .before .args in
-    joins-unplaced (a .placed) (a .label .now) (a .t) (a .d) (c .before .before .if1 .left) (sym (c .before .has .ensures) ∙ not-true (c .before .has .result) (c .if2 .taken))
+    let h = c .before in
+    let a = start h .args in
+    joins-unplaced (a .placed) (a .label .now) (a .t) (a .d) (h .before .if1 .left) (sym (h .has .ensures) ∙ not-true (h .has .result) (c .if2 .taken))
 
 sub-result : tie.Need-sub-result
 sub-result c = search needs
@@ -34,8 +39,9 @@ cast-result c = search needs
 
 returns-3 : tie.Need-returns-3
 returns-3 c =
-    let a = c .before .before .before .before .args in
-    joins-says (a .placed) (a .label .now) (a .t) (a .d) (c .before .before .before .if1 .left) (sym (c .before .before .has .ensures) ∙ not-false (c .before .before .has .result) (c .before .if2 .left))
+    let h = c .before .before in
+    let a = start h .args in
+    joins-says (a .placed) (a .label .now) (a .t) (a .d) (h .before .if1 .left) (sym (h .has .ensures) ∙ not-false (h .has .result) (c .before .if2 .left))
 
 pub joins-spec : {M : Type 1} → statement M
 joins-spec =

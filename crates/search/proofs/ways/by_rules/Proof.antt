@@ -3,6 +3,7 @@ use mathlib.Core.Path.{_≡_}
 use Prim.Native.Nat.{_≤_, _-_}
 use native.Mathlib.Omega.{arith}
 use lib.ListN.{length}
+use Rattle.pattern.proofs.Given.{scope-small}
 use Rattle.search.proofs.ways.by_rules.Statement.{statement}
 use Rattle.search.proofs.ways.by_rules.Tie as tie
 
@@ -26,7 +27,7 @@ by-rule-requires c κs =
     let l = c .before .before .before in
     let p = l .before .pre in
     let ok = p .0 .rule-ok (l .loop .i) (c .before .before .loop-test .taken) in
-    (ok .from, omega (arith, ok .to, p .0 .few-levels), p .1, l .loop .inv .1)
+    (ok .from, omega (arith, ok .to, p .0 .few-levels), p .1, l .loop .inv .1, scope-small (p .0) (l .loop .i) (c .before .before .loop-test .taken))
 
 add-i : tie.Need-add-i Inv-loop μ-loop
 add-i c = omega (arith, c .before .before .before .loop-test .taken)

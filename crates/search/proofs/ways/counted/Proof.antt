@@ -5,7 +5,6 @@ use lib.ListN.{length}
 use borrow.Author.Needs.{needs}
 use mathlib.Core.Path.{_≡_, refl}
 use lib.ListN.{length-set}
-use Rattle.bits.proofs.Masks.{lowest-less, lowest-below}
 use Rattle.search.proofs.ways.counted.Statement.{statement}
 use Rattle.search.proofs.ways.counted.Tie as tie
 
@@ -18,30 +17,27 @@ abbrev μ-loop : tie.MeasureT-loop
 loop-holds : tie.Need-loop-holds Inv-loop μ-loop
 loop-holds c = (c .pre .1, refl)
 
-lowest-requires : tie.Need-lowest-requires Inv-loop μ-loop
-lowest-requires c κs = search needs
-
-without-requires : tie.Need-without-requires Inv-loop μ-loop
-without-requires c κs = search needs
+take-requires : tie.Need-take-requires Inv-loop μ-loop
+take-requires c κs = search needs
 
 -- the step of a turn
-below : (c : tie.After-without Inv-loop μ-loop) → c .before .lowest .result < 12
-below c = lowest-below (c .before .before .before .loop .inv .0) (c .before .lowest .ensures .1)
+below : (c : tie.After-take Inv-loop μ-loop) → c .take .result .first < 12
+below c = c .take .ensures .1 .below 12 (c .before .before .loop .inv .0)
 
 ways-of-requires : tie.Need-ways-of-requires Inv-loop μ-loop
-ways-of-requires c κs = let p = c .before .before .before .before .pre in (p .0, below c, p .2, p .3, p .4, p .5)
+ways-of-requires c κs = let p = c .before .before .before .pre in (p .0, below c, p .2, p .3, p .4, p .5)
 
 mul-ways : tie.Need-mul-ways Inv-loop μ-loop
 mul-ways c = omega (arith, below (c .before))
 
 array-write-ways : tie.Need-array-write-ways Inv-loop μ-loop
-array-write-ways c = omega (arith, below (c .before), c .before .before .before .before .loop .inv .1)
+array-write-ways c = omega (arith, below (c .before), c .before .before .before .loop .inv .1)
 
 loop-less : tie.Need-loop-less Inv-loop μ-loop
-loop-less c = lowest-less (c .before .before .lowest .ensures .1) (c .before .without .ensures)
+loop-less c = c .before .take .ensures .1 .less
 
 loop-again : tie.Need-loop-again Inv-loop μ-loop
-loop-again c = (omega (arith, lowest-less (c .before .before .lowest .ensures .1) (c .before .without .ensures), c .before .before .before .before .loop .inv .0), simp length-set (c .before .before .before .before .loop .inv .1))
+loop-again c = (omega (arith, c .before .take .ensures .1 .less, c .before .before .before .loop .inv .0), simp length-set (c .before .before .before .loop .inv .1))
 
 returns : tie.Need-returns Inv-loop μ-loop
 returns c = c .before .loop .inv .1
@@ -53,8 +49,7 @@ counted-spec =
     Inv-loop
     μ-loop
     loop-holds
-    lowest-requires
-    without-requires
+    take-requires
     ways-of-requires
     mul-ways
     array-write-ways

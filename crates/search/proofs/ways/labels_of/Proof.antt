@@ -2,7 +2,6 @@
 use Prim.Native.Nat.{_-_, _<_}
 use native.Mathlib.Omega.{arith}
 use borrow.Author.Needs.{needs}
-use Rattle.bits.proofs.Masks.{lowest-less, lowest-below}
 use Rattle.search.proofs.ways.labels_of.Statement.{statement}
 use Rattle.search.proofs.ways.labels_of.Tie as tie
 
@@ -15,15 +14,12 @@ abbrev μ-loop : tie.MeasureT-loop
 loop-holds : tie.Need-loop-holds Inv-loop μ-loop
 loop-holds c = c .pre .0
 
-lowest-requires : tie.Need-lowest-requires Inv-loop μ-loop
-lowest-requires c κs = search needs
-
-without-requires : tie.Need-without-requires Inv-loop μ-loop
-without-requires c κs = search needs
+take-requires : tie.Need-take-requires Inv-loop μ-loop
+take-requires c κs = search needs
 
 -- the step of a turn
-below : (c : tie.After-without Inv-loop μ-loop) → c .before .lowest .result < 12
-below c = lowest-below (c .before .before .before .loop .inv) (c .before .lowest .ensures .1)
+below : (c : tie.After-take Inv-loop μ-loop) → c .take .result .first < 12
+below c = c .take .ensures .1 .below 12 (c .before .before .loop .inv)
 
 add-with : tie.Need-add-with Inv-loop μ-loop
 add-with c = omega (arith, below c)
@@ -38,10 +34,10 @@ with-requires : tie.Need-with-requires Inv-loop μ-loop
 with-requires c κs = search needs
 
 loop-less : tie.Need-loop-less Inv-loop μ-loop
-loop-less c = lowest-less (c .before .before .before .lowest .ensures .1) (c .before .before .without .ensures)
+loop-less c = c .before .before .take .ensures .1 .less
 
 loop-again : tie.Need-loop-again Inv-loop μ-loop
-loop-again c = omega (arith, lowest-less (c .before .before .before .lowest .ensures .1) (c .before .before .without .ensures))
+loop-again c = omega (arith, c .before .before .take .ensures .1 .less)
 
 returns : tie.Need-returns Inv-loop μ-loop
 returns c = tt
@@ -53,8 +49,7 @@ labels-of-spec =
     Inv-loop
     μ-loop
     loop-holds
-    lowest-requires
-    without-requires
+    take-requires
     add-with
     element-copy-out-with
     cast-with

@@ -5,7 +5,6 @@ use lib.ListN.{length}
 use borrow.Author.Needs.{needs}
 use mathlib.Core.Path.{_≡_}
 use lib.ListN.{length-set}
-use Rattle.bits.proofs.Masks.{lowest-less, lowest-below}
 use Rattle.search.proofs.ways.leave.Statement.{statement}
 use Rattle.search.proofs.ways.leave.Tie as tie
 
@@ -18,15 +17,12 @@ abbrev μ-loop : tie.MeasureT-loop
 loop-holds : tie.Need-loop-holds Inv-loop μ-loop
 loop-holds c = (c .pre .0, c .pre .2)
 
-lowest-requires : tie.Need-lowest-requires Inv-loop μ-loop
-lowest-requires c κs = search needs
-
-without-requires : tie.Need-without-requires Inv-loop μ-loop
-without-requires c κs = search needs
+take-requires : tie.Need-take-requires Inv-loop μ-loop
+take-requires c κs = search needs
 
 -- the step of a turn
-below : (c : tie.After-without Inv-loop μ-loop) → c .before .lowest .result < 12
-below c = lowest-below (c .before .before .before .loop .inv .0) (c .before .lowest .ensures .1)
+below : (c : tie.After-take Inv-loop μ-loop) → c .take .result .first < 12
+below c = c .take .ensures .1 .below 12 (c .before .before .loop .inv .0)
 
 add-free : tie.Need-add-free Inv-loop μ-loop
 add-free c = omega (arith, below c)
@@ -35,7 +31,7 @@ mul-free : tie.Need-mul-free Inv-loop μ-loop
 mul-free c = omega (arith, below c)
 
 element-copy-out-free : tie.Need-element-copy-out-free Inv-loop μ-loop
-element-copy-out-free c = omega (arith, below c, c .before .before .before .loop .inv .1)
+element-copy-out-free c = omega (arith, below c, c .before .before .loop .inv .1)
 
 add-free-2 : tie.Need-add-free-2 Inv-loop μ-loop
 add-free-2 c = omega (arith, below (c .before))
@@ -44,13 +40,13 @@ mul-free-2 : tie.Need-mul-free-2 Inv-loop μ-loop
 mul-free-2 c = omega (arith, below (c .before))
 
 element-write-free : tie.Need-element-write-free Inv-loop μ-loop
-element-write-free c = omega (arith, below (c .before), c .before .before .before .before .loop .inv .1)
+element-write-free c = omega (arith, below (c .before), c .before .before .before .loop .inv .1)
 
 loop-less : tie.Need-loop-less Inv-loop μ-loop
-loop-less c = lowest-less (c .before .before .lowest .ensures .1) (c .before .without .ensures)
+loop-less c = c .before .take .ensures .1 .less
 
 loop-again : tie.Need-loop-again Inv-loop μ-loop
-loop-again c = (omega (arith, lowest-less (c .before .before .lowest .ensures .1) (c .before .without .ensures)), simp length-set (c .before .before .before .before .loop .inv .1))
+loop-again c = (omega (arith, c .before .take .ensures .1 .less), simp length-set (c .before .before .before .loop .inv .1))
 
 returns : tie.Need-returns Inv-loop μ-loop
 returns c = c .before .loop .inv .1
@@ -62,8 +58,7 @@ leave-spec =
     Inv-loop
     μ-loop
     loop-holds
-    lowest-requires
-    without-requires
+    take-requires
     add-free
     mul-free
     element-copy-out-free

@@ -1,7 +1,7 @@
 -- Where the first person of the slot has the same bench and the same shop, all earlier ones on that bench have; otherwise the earlier people
 -- are gone through. Assumes nothing.
 use borrow.Author.Needs.{needs}
-use Rattle.sheet.proofs.SlotLaws.{same-shop}
+use Rattle.sheet.proofs.Clashes.{same-shop}
 use Rattle.sheet.proofs.clash.bench_again.Statement.{statement}
 use Rattle.sheet.proofs.clash.bench_again.Tie as tie
 

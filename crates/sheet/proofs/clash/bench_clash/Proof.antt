@@ -3,16 +3,16 @@ use native.Mathlib.Omega.{arith}
 use Prim.Native.Nat.{_-_}
 use mathlib.Core.Path.{sym, _∙_}
 use Rattle.bits.specs.Below.{any}
+use Rattle.bits.specs.Slots.{FirstOfSlot}
+use Rattle.bits.proofs.SlotLaws.{firsts-none}
 use Rattle.sheet.specs.Cards.{movedAt}
 use Rattle.sheet.specs.Read.{firstClash}
-use Rattle.sheet.specs.Slots.{Firsts}
 use Rattle.bits.proofs.Scan.{Passed, passed-none, passed-more, passed-found, passed-all}
-use Rattle.sheet.proofs.SlotLaws.{firsts-none}
 use Rattle.sheet.proofs.clash.bench_clash.Statement.{statement}
 use Rattle.sheet.proofs.clash.bench_clash.Tie as tie
 
 abbrev Inv-loop : tie.InvT-loop
-Inv-loop benches shops count firsts₀ k₀ firsts k = Passed count (λ i. any i (λ j. movedAt benches shops j i)) k × Firsts benches k firsts
+Inv-loop benches shops count firsts₀ k₀ firsts k = Passed count (λ i. any i (λ j. movedAt benches shops j i)) k × FirstOfSlot benches k firsts
 
 abbrev μ-loop : tie.MeasureT-loop
 μ-loop benches shops count firsts₀ k₀ firsts k = count - k

@@ -1,6 +1,6 @@
 -- A slot without a mark has no earlier tag; otherwise the earlier tags are gone through. Assumes nothing.
 use borrow.Author.Needs.{needs}
-use Rattle.sheet.proofs.SlotLaws.{marked-same, marked-more, not-marked}
+use Rattle.sheet.proofs.Clashes.{marked-same, marked-more, not-marked}
 use Rattle.sheet.proofs.clash.tag_again.Statement.{statement}
 use Rattle.sheet.proofs.clash.tag_again.Tie as tie
 
@@ -12,6 +12,12 @@ shared-slice-read-slot c = search needs
 
 cast-slot : tie.Need-cast-slot
 cast-slot c = search needs
+
+rem-slot : tie.Need-rem-slot
+rem-slot c = search needs
+
+cast-slot-2 : tie.Need-cast-slot-2
+cast-slot-2 c = search needs
 
 element-copy-out-if1 : tie.Need-element-copy-out-if1
 element-copy-out-if1 c = search needs
@@ -35,6 +41,8 @@ tag-again-spec =
     mul-slot
     shared-slice-read-slot
     cast-slot
+    rem-slot
+    cast-slot-2
     element-copy-out-if1
     tag-stood-requires
     returns

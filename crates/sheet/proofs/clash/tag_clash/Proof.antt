@@ -5,14 +5,14 @@ use mathlib.Core.Path.{sym, _∙_}
 use Rattle.bits.specs.Below.{any}
 use Rattle.sheet.specs.Cards.{equalAt}
 use Rattle.sheet.specs.Read.{firstClash}
-use Rattle.sheet.specs.Slots.{Marked}
+use Rattle.sheet.specs.Slots.{SlotsMarked}
 use Rattle.bits.proofs.Scan.{Passed, passed-none, passed-more, passed-found, passed-all}
-use Rattle.sheet.proofs.SlotLaws.{marked-none}
+use Rattle.sheet.proofs.Clashes.{marked-none}
 use Rattle.sheet.proofs.clash.tag_clash.Statement.{statement}
 use Rattle.sheet.proofs.clash.tag_clash.Tie as tie
 
 abbrev Inv-loop : tie.InvT-loop
-Inv-loop tags count marks₀ k₀ marks k = Passed count (λ i. any i (λ j. equalAt tags j i)) k × Marked tags k marks
+Inv-loop tags count marks₀ k₀ marks k = Passed count (λ i. any i (λ j. equalAt tags j i)) k × SlotsMarked tags k marks
 
 abbrev μ-loop : tie.MeasureT-loop
 μ-loop tags count marks₀ k₀ marks k = count - k

@@ -1,7 +1,7 @@
 -- `sheet::late::first_late` meets its contract. The invariant: none of the people passed has such a bit. Assumes nothing.
 use Rattle.sheet.proofs.Tests.{late-yes, late-no, late-is}
 use native.Mathlib.Omega.{arith}
-use Prim.Native.Nat.{ℕ, _-_}
+use Prim.Native.Nat.{_-_}
 use mathlib.Core.Bool.{not}
 use mathlib.Core.Path.{_∙_}
 use lib.ListN.{getD}

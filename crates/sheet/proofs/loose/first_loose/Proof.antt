@@ -2,7 +2,7 @@
 use Rattle.sheet.specs.Read.{firstLoose}
 use Rattle.sheet.proofs.Tests.{loose-is}
 use native.Mathlib.Omega.{arith}
-use Prim.Native.Nat.{ℕ, _-_, _+_, _≤_}
+use Prim.Native.Nat.{_-_, _+_, _≤_}
 use mathlib.Core.Bool.{not, _||_}
 use mathlib.Core.Path.{_≡_, refl, _∙_}
 use lib.Dec.{eqb}

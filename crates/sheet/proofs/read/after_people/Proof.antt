@@ -10,7 +10,7 @@ refused-requires : tie.Need-refused-requires
 refused-requires c κs = search needs
 
 returns : tie.Need-returns
-returns c = no-people _ _ _ _ (c .before .before .before .pre .0) _ (c .before .if1 .taken) (c .refused .ensures)
+returns c = no-people _ (c .before .before .before .pre .0) (c .before .if1 .taken) (c .refused .ensures)
 
 word-requires : tie.Need-word-requires
 word-requires c κs = search needs
@@ -28,23 +28,33 @@ enum-known-ended-2 : tie.Need-enum-known-ended-2
 enum-known-ended-2 c = search needs
 
 after-steps-requires : tie.Need-after-steps-requires
-after-steps-requires c κs = (
-  c .before .before .before .before .before .before .before .before .before .before .before .pre .0,
-  stage-listing _ _ _ _ _ _ _ _ (c .before .before .before .before .before .before .before .before .before .before .before .pre .1) (omega arith) _ (c .before .before .before .before .before .before .before .before .word .ensures .0) _ _ _ (c .before .before .before .before .before .walk-chain .ensures) _ (c .before .before .before .ended2 .given .1),
-  stage-count _ _ _ _ _ _ _ _ (c .before .before .before .before .before .before .before .before .before .before .before .pre .1) (omega arith) _ (c .before .before .before .before .before .before .before .before .word .ensures .0) _ _ _ (c .before .before .before .before .before .walk-chain .ensures) _ (c .before .before .before .ended2 .given .1),
-  stage-marking _ _ _ _ _ _ _ _ (c .before .before .before .before .before .before .before .before .before .before .before .pre .1) (omega arith) _ (c .before .before .before .before .before .before .before .before .word .ensures .0) _ _ _ (c .before .before .before .before .before .walk-chain .ensures) _ (c .before .before .before .ended2 .given .1),
-)
+after-steps-requires c κs =
+    let w = c .before .before .before .before .before in
+    let first = w .before .before .before .word .ensures .0 in
+    let q = w .before .before .before .before .before .before .pre in
+    let ended = c .before .before .before .ended2 .given .1 in (
+      q .0,
+      stage-listing _ _ (q .1) (omega arith) first (w .walk-chain .ensures) ended,
+      stage-count _ _ (q .1) (omega arith) first (w .walk-chain .ensures) ended,
+      stage-marking _ _ (q .1) (omega arith) first (w .walk-chain .ensures) ended,
+    )
 
 returns-2 : tie.Need-returns-2
 returns-2 c =
-    steps-refused _ _ _ _ (c .before .before .before .before .before .before .before .before .before .before .pre .0) _ (c .before .before .before .before .before .before .before .before .if1 .left) _ _
-    (stage-refused _ _ _ _ _ _ _ _ (c .before .before .before .before .before .before .before .before .before .before .pre .1) (omega arith) _ (c .before .before .before .before .before .before .before .word .ensures .0) _ _ _ (c .before .before .before .before .walk-chain .ensures) _ _ (c .before .before .ended .given .1))
+    let w = c .before .before .before .before in
+    let first = w .before .before .before in
+    let q = first .before .before .before .pre in
+    steps-refused _ (q .0) (first .before .if1 .left)
+    (stage-refused _ _ (q .1) (omega arith) (first .word .ensures .0) (w .walk-chain .ensures) (c .before .before .ended .given .1))
     (c .refused2 .ensures)
 
 returns-3 : tie.Need-returns-3
 returns-3 c =
-    steps-listed _ _ _ _ (c .before .before .before .before .before .before .before .before .before .before .before .before .pre .0) _ (c .before .before .before .before .before .before .before .before .before .before .if1 .left) _
-    (stage-listed _ _ _ _ _ _ _ _ (c .before .before .before .before .before .before .before .before .before .before .before .before .pre .1) (omega arith) _ (c .before .before .before .before .before .before .before .before .before .word .ensures .0) _ _ _ (c .before .before .before .before .before .before .walk-chain .ensures) _ (c .before .before .before .before .ended2 .given .1))
+    let w = c .before .before .before .before .before .before in
+    let first = w .before .before .before in
+    let q = first .before .before .before .pre in
+    steps-listed _ (q .0) (first .before .if1 .left)
+    (stage-listed _ _ (q .1) (omega arith) (first .word .ensures .0) (w .walk-chain .ensures) (c .before .before .before .before .ended2 .given .1))
     (c .after-steps .ensures)
 
 pub after-people-spec : {M : Type 1} → statement M

@@ -1,6 +1,6 @@
 -- Each return is one case of `stepsRead`. Assumes nothing.
 use native.Mathlib.Omega.{arith}
-use Rattle.sheet.proofs.Stage.{stage-refused, stage-listed, stage-count, stage-listing, stage-marking}
+use Rattle.sheet.proofs.Stage.{stage-refused, stage-listed, stage-listing, stage-marking}
 use Rattle.sheet.proofs.Order.{no-steps, late-bit, rules-refused, rules-listed}
 use borrow.Author.Needs.{needs}
 use Rattle.sheet.proofs.read.after_steps.Statement.{statement}
@@ -10,7 +10,9 @@ refused-requires : tie.Need-refused-requires
 refused-requires c κs = search needs
 
 returns : tie.Need-returns
-returns c = no-steps _ _ _ _ (c .before .before .before .pre .0) _ _ _ (c .before .before .before .pre .1) (c .before .if1 .taken) (c .refused .ensures)
+returns c =
+    let q = c .before .before .before .pre in
+    no-steps _ (q .0) (q .1) (c .before .if1 .taken) (c .refused .ensures)
 
 first-late-requires : tie.Need-first-late-requires
 first-late-requires c κs = search needs
@@ -25,7 +27,10 @@ refused-requires-2 : tie.Need-refused-requires-2
 refused-requires-2 c κs = search needs
 
 returns-2 : tie.Need-returns-2
-returns-2 c = late-bit _ _ _ _ (c .before .before .before .before .before .before .pre .0) _ _ _ (c .before .before .before .before .before .before .pre .1) (c .before .before .before .before .if1 .left) _ (c .before .before .before .first-late .ensures) (c .before .before .if2 .taken) (c .refused2 .ensures)
+returns-2 c =
+    let l = c .before .before .before in
+    let q = l .before .before .before .pre in
+    late-bit _ (q .0) (q .1) (l .before .if1 .left) (l .first-late .ensures) (c .before .before .if2 .taken) (c .refused2 .ensures)
 
 word-requires : tie.Need-word-requires
 word-requires c κs = search needs
@@ -43,24 +48,36 @@ enum-known-ended-2 : tie.Need-enum-known-ended-2
 enum-known-ended-2 c = search needs
 
 after-rules-requires : tie.Need-after-rules-requires
-after-rules-requires c κs = (
-  c .before .before .before .before .before .before .before .before .before .before .before .before .before .pre .0,
-  c .before .before .before .before .before .before .before .before .before .before .before .before .before .pre .1,
-  c .before .before .before .before .before .before .before .before .before .before .before .before .before .pre .2,
-  stage-listing _ _ _ _ _ _ _ _ (c .before .before .before .before .before .before .before .before .before .before .before .before .before .pre .3) (omega arith) _ (c .before .before .before .before .before .before .before .before .word .ensures .0) _ _ _ (c .before .before .before .before .before .walk-chain .ensures) _ (c .before .before .before .ended2 .given .1),
-  stage-marking _ _ _ _ _ _ _ _ (c .before .before .before .before .before .before .before .before .before .before .before .before .before .pre .3) (omega arith) _ (c .before .before .before .before .before .before .before .before .word .ensures .0) _ _ _ (c .before .before .before .before .before .walk-chain .ensures) _ (c .before .before .before .ended2 .given .1),
-)
+after-rules-requires c κs =
+    let w = c .before .before .before .before .before in
+    let first = w .before .before .before .word .ensures .0 in
+    let q = w .before .before .before .before .before .before .before .before .pre in
+    let ended = c .before .before .before .ended2 .given .1 in (
+      q .0,
+      q .1,
+      q .2,
+      stage-listing _ _ (q .3) (omega arith) first (w .walk-chain .ensures) ended,
+      stage-marking _ _ (q .3) (omega arith) first (w .walk-chain .ensures) ended,
+    )
 
 returns-3 : tie.Need-returns-3
 returns-3 c =
-    rules-refused _ _ _ _ (c .before .before .before .before .before .before .before .before .before .before .before .before .pre .0) _ _ _ (c .before .before .before .before .before .before .before .before .before .before .before .before .pre .1) (c .before .before .before .before .before .before .before .before .before .before .if1 .left) _ (c .before .before .before .before .before .before .before .before .before .first-late .ensures) (c .before .before .before .before .before .before .before .before .if2 .left) _ _
-    (stage-refused _ _ _ _ _ _ _ _ (c .before .before .before .before .before .before .before .before .before .before .before .before .pre .3) (omega arith) _ (c .before .before .before .before .before .before .before .word .ensures .0) _ _ _ (c .before .before .before .before .walk-chain .ensures) _ _ (c .before .before .ended .given .1))
+    let w = c .before .before .before .before in
+    let first = w .before .before .before in
+    let l = first .before .before in
+    let q = l .before .before .before .pre in
+    rules-refused _ (q .0) (q .1) (l .before .if1 .left) (l .first-late .ensures) (first .before .if2 .left)
+    (stage-refused _ _ (q .3) (omega arith) (first .word .ensures .0) (w .walk-chain .ensures) (c .before .before .ended .given .1))
     (c .refused3 .ensures)
 
 returns-4 : tie.Need-returns-4
 returns-4 c =
-    rules-listed _ _ _ _ (c .before .before .before .before .before .before .before .before .before .before .before .before .before .before .pre .0) _ _ _ (c .before .before .before .before .before .before .before .before .before .before .before .before .before .before .pre .1) (c .before .before .before .before .before .before .before .before .before .before .before .before .if1 .left) _ (c .before .before .before .before .before .before .before .before .before .before .before .first-late .ensures) (c .before .before .before .before .before .before .before .before .before .before .if2 .left) _
-    (stage-listed _ _ _ _ _ _ _ _ (c .before .before .before .before .before .before .before .before .before .before .before .before .before .before .pre .3) (omega arith) _ (c .before .before .before .before .before .before .before .before .before .word .ensures .0) _ _ _ (c .before .before .before .before .before .before .walk-chain .ensures) _ (c .before .before .before .before .ended2 .given .1))
+    let w = c .before .before .before .before .before .before in
+    let first = w .before .before .before in
+    let l = first .before .before in
+    let q = l .before .before .before .pre in
+    rules-listed _ (q .0) (q .1) (l .before .if1 .left) (l .first-late .ensures) (first .before .if2 .left)
+    (stage-listed _ _ (q .3) (omega arith) (first .word .ensures .0) (w .walk-chain .ensures) (c .before .before .before .before .ended2 .given .1))
     (c .after-rules .ensures)
 
 pub after-steps-spec : {M : Type 1} → statement M

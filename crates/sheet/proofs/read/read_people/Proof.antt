@@ -1,9 +1,12 @@
 -- Each return is one case of `readPeople`. Assumes nothing.
+use mathlib.Core.Bool.{false}
 use native.Mathlib.Omega.{arith}
-use Rattle.sheet.proofs.Stage.{stage-refused, stage-listed, stage-count, stage-listing, stage-marking, nothing-marked}
+use lib.ListN.{replicate}
+use Rattle.sheet.proofs.Stage.{stage-refused, stage-listed, stage-listing, stage-marking, nothing-marked}
 use Rattle.sheet.proofs.Order.{people-refused, people-listed}
 use denote.Ref.{now}
 use Rattle.card.specs.Layout.{personKind}
+use Rattle.sheet.specs.Cards.{Marking}
 use borrow.Author.Needs.{needs}
 use Rattle.sheet.proofs.read.read_people.Statement.{statement}
 use Rattle.sheet.proofs.read.read_people.Tie as tie
@@ -23,22 +26,33 @@ refused-requires c κs = search needs
 enum-known-ended-2 : tie.Need-enum-known-ended-2
 enum-known-ended-2 c = search needs
 
+-- no card is marked where the walk starts
+unmarked : (c : tie.After-walk-chain) → let a = c .before .before .before .before .before .args in
+    Marking (now (a .s)) (a .cards) (replicate 141 false) (λ x. false)
+unmarked c = let q = c .before .before .before .before .before .pre in nothing-marked _ _ (q .1) (q .2) (q .0)
+
 after-people-requires : tie.Need-after-people-requires
-after-people-requires c κs = (
-  stage-listing _ _ _ _ _ _ _ _ (nothing-marked _ _ (c .before .before .before .before .before .before .before .before .before .before .pre .1) (c .before .before .before .before .before .before .before .before .before .before .pre .2) (c .before .before .before .before .before .before .before .before .before .before .pre .0)) (omega arith) _ (c .before .before .before .before .before .before .before .before .word .ensures .0) _ _ _ (c .before .before .before .before .before .walk-chain .ensures) _ (c .before .before .before .ended2 .given .1),
-  stage-marking _ _ _ _ _ _ _ _ (nothing-marked _ _ (c .before .before .before .before .before .before .before .before .before .before .pre .1) (c .before .before .before .before .before .before .before .before .before .before .pre .2) (c .before .before .before .before .before .before .before .before .before .before .pre .0)) (omega arith) _ (c .before .before .before .before .before .before .before .before .word .ensures .0) _ _ _ (c .before .before .before .before .before .walk-chain .ensures) _ (c .before .before .before .ended2 .given .1),
-)
+after-people-requires c κs =
+    let w = c .before .before .before .before .before in
+    let first = w .before .before .before .word .ensures .0 in
+    let ended = c .before .before .before .ended2 .given .1 in (
+      stage-listing _ _ (unmarked w) (omega arith) first (w .walk-chain .ensures) ended,
+      stage-marking _ _ (unmarked w) (omega arith) first (w .walk-chain .ensures) ended,
+    )
 
 returns : tie.Need-returns
 returns c =
-    people-refused _ _ _ _ _
-    (stage-refused (now (c .before .before .before .before .before .before .before .before .before .args .s)) _ personKind 0 _ _ _ _ (nothing-marked _ _ (c .before .before .before .before .before .before .before .before .before .pre .1) (c .before .before .before .before .before .before .before .before .before .pre .2) (c .before .before .before .before .before .before .before .before .before .pre .0)) (omega arith) _ (c .before .before .before .before .before .before .before .word .ensures .0) _ _ _ (c .before .before .before .before .walk-chain .ensures) _ _ (c .before .before .ended .given .1))
+    let w = c .before .before .before .before in
+    let first = w .before .before .before .word .ensures .0 in
+    people-refused _ _ (stage-refused _ _ (unmarked w) (omega arith) first (w .walk-chain .ensures) (c .before .before .ended .given .1))
     (c .refused .ensures)
 
 returns-2 : tie.Need-returns-2
 returns-2 c =
-    people-listed _ _ _ _
-    (stage-listed (now (c .before .before .before .before .before .before .before .before .before .before .before .args .s)) _ personKind 0 _ _ _ _ (nothing-marked _ _ (c .before .before .before .before .before .before .before .before .before .before .before .pre .1) (c .before .before .before .before .before .before .before .before .before .before .before .pre .2) (c .before .before .before .before .before .before .before .before .before .before .before .pre .0)) (omega arith) _ (c .before .before .before .before .before .before .before .before .before .word .ensures .0) _ _ _ (c .before .before .before .before .before .before .walk-chain .ensures) _ (c .before .before .before .before .ended2 .given .1))
+    let w = c .before .before .before .before .before .before in
+    let first = w .before .before .before .word .ensures .0 in
+    let ended = c .before .before .before .before .ended2 .given .1 in
+    people-listed _ _ (stage-listed _ _ (unmarked w) (omega arith) first (w .walk-chain .ensures) ended)
     (c .after-people .ensures)
 
 pub read-people-spec : {M : Type 1} → statement M

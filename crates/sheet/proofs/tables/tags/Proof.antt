@@ -1,5 +1,4 @@
 -- `sheet::tables::tags` meets its contract. The invariant: the tags of the first k cards are in the table. Assumes nothing.
-use mathlib.Core.Path.{_∙_}
 use lib.ListN.{length-set}
 use native.Mathlib.Omega.{arith}
 use Prim.Native.Nat.{_-_}
@@ -44,7 +43,10 @@ loop-less : tie.Need-loop-less Inv-loop μ-loop
 loop-less c = omega arith
 
 loop-again : tie.Need-loop-again Inv-loop μ-loop
-loop-again c = (filled-more _ _ _ _ _ _ (c .before .before .before .loop .inv .0) (c .before .before .loop-test .taken) (omega arith) (omega arith) _ (c .long .ensures .0), simp length-set (c .before .before .before .loop .inv .1))
+loop-again c =
+    let t = c .before .before in
+    let i = t .before .loop .inv in
+    (filled-more _ _ _ _ _ _ (i .0) (t .loop-test .taken) (omega arith) (omega arith) _ (c .long .ensures .0), simp length-set (i .1))
 
 same-length : tie.Need-same-length Inv-loop μ-loop
 same-length c = omega arith

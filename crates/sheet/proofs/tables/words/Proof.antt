@@ -1,8 +1,7 @@
 -- The invariant: the first k cards are in the table. Assumes nothing.
 use native.Mathlib.Omega.{arith}
 use Prim.Native.Nat.{_-_}
-use mathlib.Core.Path.{_≡_, refl}
-use lib.ListN.{length}
+use mathlib.Core.Path.{refl}
 use Rattle.sheet.proofs.Fill.{Filled, filled-none, filled-more, filled-all}
 use Rattle.card.specs.Layout.{cardWord}
 use Rattle.sheet.proofs.tables.words.Statement.{statement}
