@@ -1,10 +1,11 @@
-// How many ways each open step has left, by the rules alone. A step with few ways is placed next, so that
-// a search which fails does so early. No promise rests on it.
+// The key of each open step: how many ways it has left, by the rules alone, and how much weighs on it. A step
+// with few ways is placed next, so that a search which fails does so early. No promise rests on it.
 use bits::sizes::LABEL_ENTRIES;
 use bits::sizes::Labels;
 use bits::sizes::MOST_STEPS;
 use bits::sizes::Reach;
 use bits::sizes::Rules;
+use bits::sizes::Weights;
 use bits::small;
 use pattern::Size;
 use pattern::rule;
@@ -175,43 +176,51 @@ fn heads_of(levels: usize, placed: u16, label: &Labels) -> [u16; 3]
     heads
 }
 
-// How many ways each step of `rest` has.
-fn counted(
+// The key of a step: the lowest comes first.
+fn key(ways: u32, weight: u32) -> u64 {
+    ways as u64 * 1000000000 / (1 + weight as u64)
+}
+
+// The keys of the steps of `rest`.
+fn keyed(
     levels: usize,
     reach: &Reach,
     free: &[u16; LABEL_ENTRIES],
     label: &Labels,
     heads: &[u16; 3],
+    weight: &Weights,
     rest: u16,
-) -> [u32; MOST_STEPS]
-    requires { ⌜ (levels ≤ 3) × (rest < 4096) × (length (now reach) ≡ 36) × (length (now free) ≡ 36) × (length (now label) ≡ 36) × (length (now heads) ≡ 3) ⌝ }
+) -> [u64; MOST_STEPS]
+    requires { ⌜ (levels ≤ 3) × (rest < 4096) × (length (now reach) ≡ 36) × (length (now free) ≡ 36) × (length (now label) ≡ 36)
+        × (length (now heads) ≡ 3) × (length (now weight) ≡ 12) ⌝ }
     ensures { λ r. ⌜ length r ≡ 12 ⌝ }
 {
-    let mut ways = [0u32; MOST_STEPS];
+    let mut keys = [0u64; MOST_STEPS];
     let mut left = rest;
     while left != 0 {
         let next = small::take(left);
         left = next.rest;
         let s = next.first;
-        ways[s] = ways_of(levels, reach, free, label, heads, s);
+        keys[s] = key(ways_of(levels, reach, free, label, heads, s), weight[s]);
     }
-    ways
+    keys
 }
 
-// How many ways each open step has left.
-pub fn ways_left(
+// The keys of the open steps.
+pub fn keys(
     size: Size,
     rule: &Rules,
     reach: &Reach,
     placed: u16,
     rest: u16,
     label: &Labels,
-) -> [u32; MOST_STEPS]
-    requires { ⌜ Ruled size (now rule) × (placed < 4096) × (rest < 4096) × (length (now reach) ≡ 36) × (length (now label) ≡ 36) ⌝ }
+    weight: &Weights,
+) -> [u64; MOST_STEPS]
+    requires { ⌜ Ruled size (now rule) × (placed < 4096) × (rest < 4096) × (length (now reach) ≡ 36) × (length (now label) ≡ 36) × (length (now weight) ≡ 12) ⌝ }
     ensures { λ r. ⌜ length r ≡ 12 ⌝ }
 {
     let mut free = [ANY; LABEL_ENTRIES];
     by_rules(size, rule, placed, label, &mut free);
     let heads = heads_of(size.levels, placed, label);
-    counted(size.levels, reach, &free, label, &heads, rest)
+    keyed(size.levels, reach, &free, label, &heads, weight, rest)
 }

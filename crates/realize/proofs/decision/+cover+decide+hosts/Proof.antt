@@ -197,10 +197,14 @@ hosts-loop-holds t c = hosting-none
 hosts-take-requires : (t : ℕ) → hosts-lts.Need-take-requires (hosts-claims t) (hosts-at t) hosts.Post hosts-Inv-loop hosts-μ-loop
 hosts-take-requires t c κs = search needs
 
+-- the start of the call whose turn it is
+abbrev hosts-start : (t : ℕ) → hosts-lts.After-take (hosts-claims t) (hosts-at t) hosts.Post hosts-Inv-loop hosts-μ-loop → hosts-lts.Start (hosts-claims t) (hosts-at t) hosts.Post hosts-Inv-loop hosts-μ-loop
+hosts-start t c = c .before .before .before .before .before .before .before .before .before
+
 -- `crowd` has the people of class v
 hosts-index : (t : ℕ) (c : hosts-lts.After-take (hosts-claims t) (hosts-at t) hosts.Post hosts-Inv-loop hosts-μ-loop)
-    → c .before .before .before .before .before .before .before .before .before .args .task .q * 64 + c .take .result .first < 192
-hosts-index t c = let p = c .before .before .before .before .before .before .before .before .before .pre .1 in omega (arith, c .take .ensures .0)
+    → hosts-start t c .args .task .q * 64 + c .take .result .first < 192
+hosts-index t c = let p = hosts-start t c .pre .1 in omega (arith, c .take .ensures .0)
 
 hosts-add-q : (t : ℕ) → hosts-lts.Need-add-q (hosts-claims t) (hosts-at t) hosts.Post hosts-Inv-loop hosts-μ-loop
 hosts-add-q t c = omega (arith, hosts-index t (c .before))
@@ -219,7 +223,7 @@ hosts-element-copy-out-people t c = omega (arith, hosts-index t (c .before .befo
 
 hosts-decide-requires : (t : ℕ) → hosts-lts.Need-decide-requires (hosts-claims t) (hosts-at t) hosts.Post hosts-Inv-loop hosts-μ-loop
 hosts-decide-requires t c κs =
-    let p = c .before .before .before .before .before .before .before .before .before .before .before .before .pre in
+    let p = hosts-start t (c .before .before .before) .pre in
     (omega arith, p .1 .0)
 
 hosts-loop-less : (t : ℕ) → hosts-lts.Need-loop-less (hosts-claims t) (hosts-at t) hosts.Post hosts-Inv-loop hosts-μ-loop

@@ -5,6 +5,13 @@ use borrow.Author.Needs.{needs}
 use Rattle.sheet.proofs.read.fill_job.Statement.{statement}
 use Rattle.sheet.proofs.read.fill_job.Tie as tie
 
+-- places of the call: the tags of the people, and the start
+abbrev tagged : tie.After-words → tie.After-tags
+tagged c = c .before .before .before .before .before
+
+abbrev start : tie.After-tags → tie.Start
+start c = c .before .before .before
+
 slice-aggregate-tags : tie.Need-slice-aggregate-tags
 slice-aggregate-tags c = search needs
 
@@ -36,16 +43,17 @@ bytes-requires-2 : tie.Need-bytes-requires-2
 bytes-requires-2 c κs = search needs
 
 bytes-requires-3 : tie.Need-bytes-requires-3
-bytes-requires-3 c κs = (c .before .before .before .before .before .before .before .before .before .before .before .before .before .pre .3, omega arith)
+bytes-requires-3 c κs = (start (tagged (c .before .before .before .before .before)) .pre .3, omega arith)
 
 returns : tie.Need-returns
 unfolding jobOf
 returns c =
     λ i.
+    let w = c .before .before .before .before .before .before in
     record {
-      «person_tag» = c .before .before .before .before .before .before .before .before .before .before .before .tags .ensures i;
-      «step_tag» = c .before .before .before .before .before .before .before .before .tags2 .ensures i;
-      shop = c .before .before .before .before .before .before .words .ensures i;
+      «person_tag» = tagged w .tags .ensures i;
+      «step_tag» = w .before .before .tags2 .ensures i;
+      shop = w .words .ensures i;
       bench = c .before .before .before .before .before .words2 .ensures i;
       permitted = c .before .before .before .before .words3 .ensures i;
       «rule_scope» = c .before .before .before .words4 .ensures i;
