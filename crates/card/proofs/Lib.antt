@@ -1,1 +1,3 @@
 pub mod ByKind
+pub mod Limits
+pub mod Zeros

@@ -13,7 +13,7 @@ use Rattle.bits.specs.Member.{member}
 use Rattle.bits.proofs.Member.{member-not}
 use Rattle.bits.proofs.Below.{by-cases, true-false, below-suc}
 use Rattle.chain.specs.Walk.{listed, refused, Chain, walk, faultAt, firstFault}
-use Rattle.chain.specs.Chained.{Chained}
+use Rattle.chain.specs.Chained.{Chained, Upto}
 use Rattle.chain.proofs.Step.{walk-end, walk-index, walk-fault, walk-next, fault-full}
 
 -- the tests that a card without a fault has passed
@@ -35,7 +35,7 @@ clean k full acc i e = go (k .before i) (member acc i) full (k .mine i) (k .fiel
     go false false false true false p q r s z = absurd (omega arith)
     go false false false true true p q r s z = record { before = p; new = q; mine = r; fields = s }
 
-length-snoc : (l : List ℕ) (i : ℕ) → length (l ++ i ∷ []) ≡ length l + 1
+pub length-snoc : (l : List ℕ) (i : ℕ) → length (l ++ i ∷ []) ≡ length l + 1
 length-snoc l i = length-append l (i ∷ [])
 
 getD-snoc-zero : (l : List ℕ) (j : ℕ) → getD (l ++ 0 ∷ []) j 0 ≡ getD l j 0
@@ -52,19 +52,8 @@ at-snoc P l i h p j m =
     (λ q. subst (λ (x : ℕ). P j x) (sym (List·getD-append l (i ∷ []) 0 j q)) (h j q))
     (λ e. subst (λ (x : ℕ). P x (getD (l ++ i ∷ []) x 0)) (sym e) (subst (λ (x : ℕ). P (length l) x) (sym (getD-append-seam l i [] 0)) p))
 
--- acc is the chain so far, and index i comes next
-record Upto (k : Chain) (first : ℕ) (acc : List ℕ) (i : ℕ) : Type 0 where
-  starts : getD (acc ++ i ∷ []) 0 0 ≡ first
-  linked : (j : ℕ) → j < length acc → getD (acc ++ i ∷ []) (j + 1) 0 ≡ k .next (getD acc j 0)
-  some : (j : ℕ) → j < length acc → 0 < getD acc j 0
-  inside : (j : ℕ) → j < length acc → getD acc j 0 < k .cards
-  apart : (j : ℕ) → j < length acc → (i : ℕ) → i < j → getD acc i 0 ≡ getD acc j 0 → ⊥
-  fresh : (j : ℕ) → j < length acc → k .before (getD acc j 0) ≡ false
-  mine : (j : ℕ) → j < length acc → k .mine (getD acc j 0) ≡ true
-  fields : (j : ℕ) → j < length acc → k .fields (getD acc j 0) ≡ true
-
 module _ (k : Chain) (first : ℕ) where
-  upto-none : Upto k first [] first
+  pub upto-none : Upto k first [] first
   upto-none =
       record {
         starts = refl;
@@ -77,7 +66,7 @@ module _ (k : Chain) (first : ℕ) where
         fields = λ j h. absurd (not-suc-le-zero h);
       }
 
-  upto-more : (acc : List ℕ) (i : ℕ) → Upto k first acc i → (i ≡ 0 → ⊥) → i < k .cards → Clean k acc i → Upto k first (acc ++ i ∷ []) (k .next i)
+  pub upto-more : (acc : List ℕ) (i : ℕ) → Upto k first acc i → (i ≡ 0 → ⊥) → i < k .cards → Clean k acc i → Upto k first (acc ++ i ∷ []) (k .next i)
   upto-more acc i u n l c =
       let len = length-snoc acc i in
       record {
@@ -95,6 +84,20 @@ module _ (k : Chain) (first : ℕ) where
         fresh = at-snoc (λ (j x : ℕ). k .before x ≡ false) acc i (u .fresh) (c .before);
         mine = at-snoc (λ (j x : ℕ). k .mine x ≡ true) acc i (u .mine) (c .mine);
         fields = at-snoc (λ (j x : ℕ). k .fields x ≡ true) acc i (u .fields) (c .fields);
+      }
+
+  -- a whole chain, and index 0 after it
+  pub chained-upto : (most : ℕ) (l : List ℕ) → Chained k most first l → Upto k first l 0
+  chained-upto most l c =
+      record {
+        starts = getD-snoc-zero l 0 ∙ c .starts;
+        linked = λ j h. getD-snoc-zero l (j + 1) ∙ c .linked j h;
+        some = c .some;
+        inside = c .inside;
+        apart = λ j h i m. c .apart i j m h;
+        fresh = c .fresh;
+        mine = c .mine;
+        fields = c .fields;
       }
 
   upto-all : (most : ℕ) (acc : List ℕ) → length acc ≤ most → Upto k first acc 0 → Chained k most first acc

@@ -1,59 +1,86 @@
--- A refusal of a walk is one of 5 to 9, at a card of the file. Assumes nothing.
+-- A walk that refuses stops at an index of the chain, for a reason that the refusal names. Assumes nothing.
 use mathlib.Core.Bool.{Bool, true, false, not, _||_}
 use mathlib.Core.List.{List, [], _∷_, _++_}
 use mathlib.Core.Path.{_≡_, refl, sym, _∙_, ap}
-use Prim.Native.Nat.{ℕ, zero, suc, _<_, _≤_}
+use Prim.Native.Nat.{ℕ, zero, suc, _+_, _<_, _≤_}
 use native.Mathlib.Omega.{arith}
 use lib.Dec.{eqb, leb, eqb·suc-zero}
-use borrow.Author.Tests.{eqb-true, eqb-false, leb-true, leb-false}
+use lib.ListN.{length, getD}
+use lib.Seq.{getD-append-seam}
+use borrow.Author.Tests.{eqb-true, eqb-false, leb-true, leb-false, not-true}
 use Rattle.bits.specs.Member.{member}
 use Rattle.bits.proofs.Below.{by-cases, true-false}
+use Rattle.card.specs.Refusals.{reachedFault, kindFault, fieldFault, countFault}
 use Rattle.chain.specs.Walk.{listed, refused, Chain, walk, faultAt, firstFault}
+use Rattle.chain.specs.Chained.{Upto, holderIn, StopsAt, at-index, at-reached, at-count, at-kind, at-fields, Stopped}
 use Rattle.chain.proofs.Step.{walk-end, walk-index, walk-fault, walk-next, fault-full}
+use Rattle.chain.proofs.Chained.{clean, length-snoc, upto-none, upto-more}
 
--- the refusals of a chain
-abbrev pub ChainFault : ℕ → ℕ → ℕ → Type 0
-ChainFault cards f c = (5 ≤ f) × (f ≤ 9) × (c < cards)
-
-fault-range : (a b d e : Bool) → (firstFault a b d e ≡ 0 → ⊥) → (5 ≤ firstFault a b d e) × (firstFault a b d e ≤ 9)
+-- which fault a card has
+fault-cases : {P : Type 0} (a b full other bad : Bool) → (firstFault (a || b) full other bad ≡ 0 → ⊥)
+    → ((a || b) ≡ true → firstFault (a || b) full other bad ≡ reachedFault → P)
+    → (b ≡ false → full ≡ true → firstFault (a || b) full other bad ≡ countFault → P)
+    → (other ≡ true → firstFault (a || b) full other bad ≡ kindFault → P)
+    → (bad ≡ true → firstFault (a || b) full other bad ≡ fieldFault → P)
+    → P
 unfolding firstFault
-fault-range true b d e n = (omega arith, omega arith)
-fault-range false true d e n = (omega arith, omega arith)
-fault-range false false true e n = (omega arith, omega arith)
-fault-range false false false true n = (omega arith, omega arith)
-fault-range false false false false n = absurd (n refl)
+fault-cases true b full other bad n w x y z = w refl refl
+fault-cases false true full other bad n w x y z = w refl refl
+fault-cases false false true other bad n w x y z = x refl refl refl
+fault-cases false false false true bad n w x y z = y refl refl
+fault-cases false false false false true n w x y z = z refl refl
+fault-cases false false false false false n w x y z = absurd (n refl)
 
-module _ (k : Chain) where
-  -- what a refusal at one index says
-  at-index : (acc : List ℕ) (h i room f c : ℕ) → h < k .cards → (i ≡ 0 → ⊥) → k .cards ≤ i → walk k room acc h i ≡ refused f c → ChainFault (k .cards) f c
-  at-index acc h i room f c b n l e =
-      let w : walk k room acc h i ≡ refused 5 h = walk-index k acc h i n room l in
-      let x : f ≡ 5 = cc in let y : c ≡ h = cc in
-      (omega arith, omega arith, omega arith)
+-- the card taken last holds the index that comes next
+holder-snoc : (acc : List ℕ) (i : ℕ) → i ≡ holderIn (acc ++ i ∷ [])
+holder-snoc acc i =
+    let n : suc (length acc) ≡ length (acc ++ i ∷ []) = omega (arith, length-snoc acc i) in
+    sym (getD-append-seam acc i [] 0) ∙ ap (λ (n : ℕ). getD (0 ∷ (acc ++ i ∷ [])) n 0) n
 
-  at-fault : (acc : List ℕ) (h i room : ℕ) (full : Bool) (f c : ℕ) → eqb room 0 ≡ full → (i ≡ 0 → ⊥) → i < k .cards → (faultAt k full acc i ≡ 0 → ⊥)
-      → walk k room acc h i ≡ refused f c → ChainFault (k .cards) f c
-  at-fault acc h i room full f c r n l q e =
-      let w : walk k room acc h i ≡ refused (faultAt k full acc i) i = walk-fault k acc h i n room full r l q in
-      let x : f ≡ faultAt k full acc i = cc in let y : c ≡ i = cc in
-      let z = fault-range (k .before i || member acc i) full (not (k .mine i)) (not (k .fields i)) q in
-      (omega (arith, z .0), omega (arith, z .1), omega arith)
+module _ (k : Chain) (most first : ℕ) where
+  module _ (acc : List ℕ) (h i room : ℕ) (u : Upto k first acc i) (f c : ℕ) (e : walk k room acc h i ≡ refused f c) where
+    stopped : StopsAt k most acc i f c → (i ≡ 0 → ⊥) → Stopped k most first f c
+    stopped w n = record { taken = acc; index = i; some = omega arith; upto = u; why = w }
 
-  never : {P : Type 0} (acc : List ℕ) (h i room f c : ℕ) → i ≡ 0 → walk k room acc h i ≡ refused f c → P
-  never acc h i room f c z e =
-      let w : walk k room acc h i ≡ listed acc = ap (walk k room acc h) z ∙ walk-end k acc h room in
-      let a : _≡_ {A = ℕ} 0 1 = cc in absurd (omega arith)
+    stop-index : h ≡ holderIn acc → (i ≡ 0 → ⊥) → k .cards ≤ i → Stopped k most first f c
+    stop-index eh n l =
+        let w : walk k room acc h i ≡ refused 5 h = walk-index k acc h i n room l in
+        let x : f ≡ 5 = cc in let y : c ≡ h = cc in
+        stopped (at-index x (y ∙ eh) l) n
 
-  pub walk-refused : (room : ℕ) (acc : List ℕ) (h i f c : ℕ) → h < k .cards → walk k room acc h i ≡ refused f c → ChainFault (k .cards) f c
-  walk-refused zero acc h i f c b e =
-      by-cases (eqb i 0) (λ t. never acc h i zero f c (eqb-true i 0 t) e)
-      (λ t. by-cases (leb (k .cards) i) (λ u. at-index acc h i zero f c b (eqb-false i 0 t) (leb-true _ _ u) e)
-      (λ u. at-fault acc h i zero true f c refl (eqb-false i 0 t) (leb-false _ _ u) (λ z. true-false refl (fault-full _ _ _ _ z)) e))
-  walk-refused (suc room) acc h i f c b e =
-      by-cases (eqb i 0) (λ t. never acc h i (suc room) f c (eqb-true i 0 t) e)
-      (λ t. by-cases (leb (k .cards) i) (λ u. at-index acc h i (suc room) f c b (eqb-false i 0 t) (leb-true _ _ u) e)
-      (λ u. by-cases (eqb (faultAt k false acc i) 0)
-      (λ v.
-      walk-refused room (acc ++ i ∷ []) i (k .next i) f c (leb-false _ _ u)
-      (sym (walk-next k acc h i (eqb-false i 0 t) room (leb-false _ _ u) (eqb-true _ _ v)) ∙ e))
-      (λ v. at-fault acc h i (suc room) false f c (eqb·suc-zero room) (eqb-false i 0 t) (leb-false _ _ u) (eqb-false _ _ v) e)))
+    stop-fault : (full : Bool) → eqb room 0 ≡ full → (full ≡ true → length acc ≡ most) → (i ≡ 0 → ⊥) → i < k .cards → (faultAt k full acc i ≡ 0 → ⊥)
+        → Stopped k most first f c
+    stop-fault full r last n l q =
+        let w : walk k room acc h i ≡ refused (faultAt k full acc i) i = walk-fault k acc h i n room full r l q in
+        let x : f ≡ faultAt k full acc i = cc in let y : c ≡ i = cc in
+        fault-cases (k .before i) (member acc i) full (not (k .mine i)) (not (k .fields i)) q
+        (λ t d. stopped (at-reached (x ∙ d) y l t) n)
+        (λ t s d. stopped (at-count (x ∙ d) y l (last s) t) n)
+        (λ t d. stopped (at-kind (x ∙ d) y l (not-true (k .mine i) t)) n)
+        (λ t d. stopped (at-fields (x ∙ d) y l (not-true (k .fields i) t)) n)
+
+    never : {P : Type 0} → i ≡ 0 → P
+    never z =
+        let w : walk k room acc h i ≡ listed acc = ap (walk k room acc h) z ∙ walk-end k acc h room in
+        let a : _≡_ {A = ℕ} 0 1 = cc in absurd (omega arith)
+
+  walk-stops : (room : ℕ) (acc : List ℕ) (h i f c : ℕ) → length acc + room ≡ most → h ≡ holderIn acc → Upto k first acc i
+      → walk k room acc h i ≡ refused f c → Stopped k most first f c
+  walk-stops zero acc h i f c r eh u e =
+      by-cases (eqb i 0) (λ t. never acc h i zero u f c e (eqb-true i 0 t))
+      (λ t. by-cases (leb (k .cards) i) (λ v. stop-index acc h i zero u f c e eh (eqb-false i 0 t) (leb-true _ _ v))
+      (λ v. stop-fault acc h i zero u f c e true refl (λ s. omega arith) (eqb-false i 0 t) (leb-false _ _ v) (λ z. true-false refl (fault-full _ _ _ _ z))))
+  walk-stops (suc room) acc h i f c r eh u e =
+      by-cases (eqb i 0) (λ t. never acc h i (suc room) u f c e (eqb-true i 0 t))
+      (λ t. by-cases (leb (k .cards) i) (λ v. stop-index acc h i (suc room) u f c e eh (eqb-false i 0 t) (leb-true _ _ v))
+      (λ v. let n = eqb-false i 0 t in let l = leb-false (k .cards) i v in
+      by-cases (eqb (faultAt k false acc i) 0)
+      (λ g.
+      let len = length-snoc acc i in
+      walk-stops room (acc ++ i ∷ []) i (k .next i) f c (omega arith) (holder-snoc acc i) (upto-more k first acc i u n l (clean k false acc i (eqb-true _ _ g)))
+      (sym (walk-next k acc h i n room l (eqb-true _ _ g)) ∙ e))
+      (λ g. stop-fault acc h i (suc room) u f c e false (eqb·suc-zero room) (λ s. true-false s refl) n l (eqb-false _ _ g))))
+
+  -- a walk from the chain's first index
+  pub walk-stopped : (f c : ℕ) → walk k most [] 0 first ≡ refused f c → Stopped k most first f c
+  walk-stopped f c e = walk-stops most [] 0 first f c (omega arith) refl (upto-none k first) e

@@ -17,8 +17,7 @@ use Rattle.sheet.specs.declared.Sheet.{Sheet}
 use Rattle.sheet.specs.declared.Reading.{Reading}
 use Rattle.sheet.specs.declared.Reading.the-variants.{Readable, Refused}
 use Rattle.sheet.proofs.Readable.{read-sheet-job}
-use Rattle.sheet.proofs.Refusals.{read-sheet-refusal}
-use Rattle.workflow.specs.First.{Found, found, nothing, planOf, listOf, firstPlan}
+use Rattle.workflow.specs.First.{found, nothing, planOf, listOf, firstPlan}
 use Rattle.workflow.proofs.First.{firstPlan-found}
 use Rattle.workflow.proofs.Lists.{planOf-listOf}
 use Rattle.pattern.specs.Tables.{planIn}
@@ -26,7 +25,7 @@ use Rattle.first.specs.Settle.{foundAs}
 use Rattle.instance.specs.Instance.{instanceOf, mayOf, crewTags}
 use Rattle.answer.specs.Bytes.{Outcome, written}
 use Rattle.crew.specs.Crew.{crewAnswer, crewOf}
-use Rattle.answer.specs.Number.{refusalNumber, Returnable}
+use Rattle.answer.specs.Number.{refusalNumber}
 use Rattle.crew.proofs.Read.{crew-read, crew-refused, crew-short, crew-none, crew-found, tags-cong}
 
 -- an answer of the second kind is a refusal

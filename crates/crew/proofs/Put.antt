@@ -9,7 +9,7 @@ use Rattle.answer.specs.Bytes.{longBytes, putAt, written}
 use Rattle.answer.proofs.Put.{put-next, written-append, length-written}
 use Rattle.instance.specs.Instance.{crewTags}
 
-length-tags : (st pt plan : List ℕ) (n : ℕ) → length (crewTags st pt plan n) ≡ 2 * n
+pub length-tags : (st pt plan : List ℕ) (n : ℕ) → length (crewTags st pt plan n) ≡ 2 * n
 unfolding crewTags
 length-tags st pt plan zero = refl
 length-tags st pt plan (suc n) =

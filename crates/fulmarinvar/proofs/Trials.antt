@@ -21,5 +21,25 @@ pub trials-hold : All trials
 unfolding all any count first headerOk personOk stepOk ruleOk limitOk fieldsOk walk member firstFault readSheet readPeople peopleRead stepsRead checked firstClash firstLate
     firstLoose jobOf table opens distinct authorisedTest eligibleTest valid firstPlan firstOf tryAll crewTags written
     planned crewOf crewRead breaking increasing spare firstBreaking counts.countFrom awayTags spareBytes spareOf spareRead spareAnswer
-trials-hold =
-    ((refl, refl), ((refl, refl), ((refl, refl), ((refl, refl), ((refl, refl), ((refl, refl), ((refl, refl), ((refl, refl), ((refl, refl), tt)))))))))
+trials-hold = (
+  (refl, (refl, (refl, tt))),
+  (
+    (refl, (refl, tt)),
+    (
+      (refl, (refl, tt)),
+      (
+        (refl, (refl, tt)),
+        (
+          (refl, (refl, tt)),
+          (
+            (refl, (refl, tt)),
+            (
+              (refl, (refl, tt)),
+              ((refl, (refl, tt)), tt),
+            ),
+          ),
+        ),
+      ),
+    ),
+  ),
+)

@@ -1,2 +1,4 @@
 pub mod Promise
+pub mod Demands
+pub mod Sheets
 pub mod Trials

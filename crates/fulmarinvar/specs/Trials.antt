@@ -1,55 +1,66 @@
 -- The starred sheets to try of paper 01, in one table with one statement. Assumes nothing.
 use mathlib.Core.List.{List, [], _∷_, _++_}
 use mathlib.Core.Path.{_≡_}
-use Prim.Native.Nat.{ℕ}
+use Prim.Native.Nat.{ℕ, _+_}
 use lib.ListN.{replicate}
-use Rattle.instance.specs.Sheets.{sheetW, sheet3, sheet9, sheetWith, sheetOne}
 use Rattle.answer.specs.Bytes.{Outcome, refused, written}
 use Rattle.crew.specs.Crew.{crewAnswer}
 use Rattle.resiliency.specs.Spare.{spareAnswer}
+use Rattle.fulmarinvar.specs.Sheets.{sheetW, sheet3, sheet9, sheetWith, sheetOne}
 
--- a sheet, the bytes of a crew buffer, what the crew call gives, a cap, and what the spare call gives
+-- what the spare call gives with a cap
+pub record SpareTrial : Type 0 where
+  pub cap : ℕ
+  pub spare : Outcome
+
+-- a sheet, the bytes that its crew needs, what the crew call gives, and the spare call
 pub record SheetTrial : Type 0 where
   pub sheet : List ℕ
   pub size : ℕ
   pub crew : Outcome
-  pub cap : ℕ
-  pub spare : Outcome
+  pub spares : List SpareTrial
 
-abbrev pub blank : ℕ → List ℕ
-blank n = replicate n 0
+-- a buffer that was used before: what is left as it was is seen
+abbrev pub used : ℕ → List ℕ
+used n = replicate n 170
 
--- the statement of every row, on buffers of zeros
+-- the statement of every row, on buffers three bytes longer than needed
+abbrev pub SparesHold : List ℕ → List SpareTrial → Type 0
+SparesHold sheet [] = Unit {0}
+SparesHold sheet (t ∷ ts) = (spareAnswer (t .cap) sheet (used 19) ≡ t .spare) × SparesHold sheet ts
+
 abbrev pub Holds : SheetTrial → Type 0
-Holds t = (crewAnswer (t .sheet) (blank (t .size)) ≡ t .crew) × (spareAnswer (t .cap) (t .sheet) (blank 16) ≡ t .spare)
+Holds t = (crewAnswer (t .sheet) (used (t .size + 3)) ≡ t .crew) × SparesHold (t .sheet) (t .spares)
 
 abbrev pub All : List SheetTrial → Type 0
 All [] = Unit {0}
 All (t ∷ ts) = Holds t × All ts
 
--- a crew of these tags; a count with these three tags
+-- a crew of these tags, a count with these three tags, each with the later bytes as they were; no plan, with every byte as it was
 abbrev pub tags : List ℕ → Outcome
-tags xs = record { number = 0; bytes = written xs }
+tags xs = record { number = 0; bytes = written xs ++ used 3 }
 
-abbrev pub counted : ℕ → List ℕ → Outcome
-counted t away = record { number = 0; bytes = (t ∷ 0 ∷ 0 ∷ 0 ∷ []) ++ written away }
+abbrev pub counted : ℕ → ℕ → List ℕ → SpareTrial
+counted cap t away = record { cap = cap; spare = record { number = 0; bytes = (t ∷ 0 ∷ 0 ∷ 0 ∷ []) ++ written away ++ used 3 } }
 
 abbrev pub noPlan : ℕ → Outcome
-noPlan n = refused 13 0 (blank n)
+noPlan n = refused 13 0 (used n)
+
+abbrev pub noCount : ℕ → SpareTrial
+noCount cap = record { cap = cap; spare = noPlan 19 }
 
 abbrev pub crewW : Outcome
 crewW = tags (10 ∷ 101 ∷ 20 ∷ 101 ∷ 30 ∷ 102 ∷ [])
 
--- sheets 1 to 9
+-- sheets 1 and 2, which are W with two caps, and 3 to 9
 abbrev pub trials : List SheetTrial
 trials =
-    record { sheet = sheetW; size = 24; crew = crewW; cap = 2; spare = counted 1 (101 ∷ 102 ∷ 0 ∷ []) }
-    ∷ record { sheet = sheetW; size = 24; crew = crewW; cap = 0; spare = counted 0 (0 ∷ 0 ∷ 0 ∷ []) }
-    ∷ record { sheet = sheet3; size = 24; crew = crewW; cap = 2; spare = counted 0 (101 ∷ 0 ∷ 0 ∷ []) }
-    ∷ record { sheet = sheetWith 2 1 0 6; size = 24; crew = noPlan 24; cap = 2; spare = noPlan 16 }
-    ∷ record { sheet = sheetWith 4 3 3 7; size = 24; crew = tags (10 ∷ 101 ∷ 20 ∷ 102 ∷ 30 ∷ 103 ∷ []); cap = 2; spare = counted 0 (101 ∷ 0 ∷ 0 ∷ []) }
-    ∷ record { sheet = sheetWith 3 3 1 7; size = 24; crew = noPlan 24; cap = 2; spare = noPlan 16 }
-    ∷ record { sheet = sheetOne 1; size = 8; crew = tags (10 ∷ 101 ∷ []); cap = 3; spare = counted 0 (101 ∷ 0 ∷ 0 ∷ []) }
-    ∷ record { sheet = sheetOne 0; size = 8; crew = noPlan 8; cap = 3; spare = noPlan 16 }
-    ∷ record { sheet = sheet9; size = 24; crew = tags (10 ∷ 101 ∷ 20 ∷ 101 ∷ 30 ∷ 101 ∷ []); cap = 2; spare = counted 1 (101 ∷ 102 ∷ 0 ∷ []) }
+    record { sheet = sheetW; size = 24; crew = crewW; spares = counted 2 1 (101 ∷ 102 ∷ 0 ∷ []) ∷ counted 0 0 (0 ∷ 0 ∷ 0 ∷ []) ∷ [] }
+    ∷ record { sheet = sheet3; size = 24; crew = crewW; spares = counted 2 0 (101 ∷ 0 ∷ 0 ∷ []) ∷ [] }
+    ∷ record { sheet = sheetWith 2 1 0 6; size = 24; crew = noPlan 27; spares = noCount 2 ∷ [] }
+    ∷ record { sheet = sheetWith 4 3 3 7; size = 24; crew = tags (10 ∷ 101 ∷ 20 ∷ 102 ∷ 30 ∷ 103 ∷ []); spares = counted 2 0 (101 ∷ 0 ∷ 0 ∷ []) ∷ [] }
+    ∷ record { sheet = sheetWith 3 3 1 7; size = 24; crew = noPlan 27; spares = noCount 2 ∷ [] }
+    ∷ record { sheet = sheetOne 1; size = 8; crew = tags (10 ∷ 101 ∷ []); spares = counted 3 0 (101 ∷ 0 ∷ 0 ∷ []) ∷ [] }
+    ∷ record { sheet = sheetOne 0; size = 8; crew = noPlan 11; spares = noCount 3 ∷ [] }
+    ∷ record { sheet = sheet9; size = 24; crew = tags (10 ∷ 101 ∷ 20 ∷ 101 ∷ 30 ∷ 101 ∷ []); spares = counted 2 1 (101 ∷ 102 ∷ 0 ∷ []) ∷ [] }
     ∷ []

@@ -1,18 +1,16 @@
 -- The instance of a readable job is one of the published problem: its classes nest, and its rules are in order. Assumes nothing.
-use mathlib.Core.Bool.{Bool, true, _&&_, _||_}
+use mathlib.Core.Bool.{true}
 use mathlib.Core.Path.{_≡_, _∙_, ap, subst}
 use Prim.Native.Nat.{ℕ, zero, suc, _+_, _-_, _^_, _<_, _≤_}
 use native.Mathlib.Nat.{zero-add, suc-add}
 use native.Mathlib.Omega.{arith}
-use lib.Dec.{eqb, leb}
 use lib.ListN.{getD}
-use borrow.Author.Tests.{eqb-true, leb-true}
 use Rattle.bits.specs.Below.{count}
 use Rattle.bits.specs.Word.{hasBit, bitsSet}
-use Rattle.bits.proofs.Below.{by-cases, and-left, and-right}
 use Rattle.bits.proofs.Counting.{count-false, is-false}
 use Rattle.bits.proofs.SetLaws.{has-below}
 use Rattle.card.specs.Fields.{limitOk}
+use Rattle.card.proofs.Limits.{limit-cases}
 use Rattle.sheet.specs.Readable.{ReadableJob}
 use Rattle.sheet.specs.declared.SheetJob as sheet
 use Rattle.workflow.specs.Problem.{Nested, RuleOk, Fits}
@@ -31,34 +29,13 @@ bits-below n x (suc d) h =
 scope-size : (steps x : ℕ) → steps ≤ 12 → x < 2 ^ steps → bitsSet 16 x ≡ count steps (hasBit x)
 scope-size steps x m h = let e : 16 ≡ 16 - steps + steps = omega arith in ap (λ (n : ℕ). count n (hasBit x)) e ∙ bits-below steps x (16 - steps) h
 
--- the two forms of a limit that was tested
-limit-cases : {P : Type 0} (kind limit size : ℕ) → limitOk kind limit size ≡ true
-    → (kind ≤ 2 → 1 ≤ kind → size ≡ 2 → limit ≡ 0 → P)
-    → (3 ≤ kind → 2 ≤ size → 1 ≤ limit → limit ≤ size → P)
-    → P
-unfolding limitOk
-limit-cases {P} kind limit size h pair range =
-    go (leb 1 kind) (leb kind 2) (eqb size 2) (eqb limit 0) (leb 3 kind) (leb kind 4) (leb 2 size) (leb 1 limit) (leb limit size) h
-    (λ a b c d. pair (leb-true _ _ b) (leb-true _ _ a) (eqb-true _ _ c) (eqb-true _ _ d))
-    (λ a b c d. range (leb-true _ _ a) (leb-true _ _ b) (leb-true _ _ c) (leb-true _ _ d))
-  where
-    go : (a b c d e f g i k : Bool) → (a && b && c && d) || (e && f && g && (i && k)) ≡ true
-        → (a ≡ true → b ≡ true → c ≡ true → d ≡ true → P) → (e ≡ true → g ≡ true → i ≡ true → k ≡ true → P) → P
-    go a b c d e f g i k h x y =
-        by-cases (a && b && c && d)
-        (λ t. let u = and-left (a && b && c) d t in let v = and-left (a && b) c u in
-        x (and-left a b v) (and-right a b v) (and-right (a && b) c u) (and-right (a && b && c) d t))
-        (λ t. let w : e && f && g && (i && k) ≡ true = rw t at h in
-        let u = and-left (e && f && g) (i && k) w in let v = and-right (e && f && g) (i && k) w in
-        y (and-left e f (and-left (e && f) g u)) (and-right (e && f) g u) (and-left i k v) (and-right i k v))
-
 fits : (kind limit size : ℕ) → limitOk kind limit size ≡ true → Fits (kindIn kind) limit size
-fits zero limit size h = limit-cases 0 limit size h (λ a b c d. absurd (omega arith)) (λ a b c d. absurd (omega arith))
-fits (suc zero) limit size h = limit-cases 1 limit size h (λ a b c d. (c, d)) (λ a b c d. absurd (omega arith))
-fits (suc (suc zero)) limit size h = limit-cases 2 limit size h (λ a b c d. (c, d)) (λ a b c d. absurd (omega arith))
-fits (suc (suc (suc zero))) limit size h = limit-cases 3 limit size h (λ a b c d. absurd (omega arith)) (λ a b c d. (b, c, d))
+fits zero limit size h = limit-cases 0 limit size h (λ a b c d. absurd (omega arith)) (λ a b c d e. absurd (omega arith))
+fits (suc zero) limit size h = limit-cases 1 limit size h (λ a b c d. (c, d)) (λ a b c d e. absurd (omega arith))
+fits (suc (suc zero)) limit size h = limit-cases 2 limit size h (λ a b c d. (c, d)) (λ a b c d e. absurd (omega arith))
+fits (suc (suc (suc zero))) limit size h = limit-cases 3 limit size h (λ a b c d. absurd (omega arith)) (λ a b c d e. (c, d, e))
 fits (suc (suc (suc (suc n)))) limit size h =
-    limit-cases (suc (suc (suc (suc n)))) limit size h (λ a b c d. absurd (omega arith)) (λ a b c d. (b, c, d))
+    limit-cases (suc (suc (suc (suc n)))) limit size h (λ a b c d. absurd (omega arith)) (λ a b c d e. (c, d, e))
 
 module _ (people steps rules : ℕ) (j : sheet.SheetJob) (r : ReadableJob people steps rules j) where
   pub instance-nested : Nested (instanceOf people steps rules j)

@@ -112,7 +112,7 @@ module _ (j : Job) (may : May) where
   pub spare-broken : (cap t : ℕ) (xs : List ℕ) → (spare j may cap ≡ broken t xs) ↔ ((t < cap) × Resilient j may t × FirstBreaking j may (suc t) xs)
   spare-broken cap t xs = (λ e. subst (IsSpare j may cap) e (spare-is-spare cap), spare-unique cap (broken t xs))
 
-  isSpare-largest : (cap : ℕ) (r : Spare) → IsSpare j may cap r → Satisfiable j may → Largest j may cap (countOf cap r)
+  pub isSpare-largest : (cap : ℕ) (r : Spare) → IsSpare j may cap r → Satisfiable j may → Largest j may cap (countOf cap r)
   isSpare-largest cap unsatisfiable a w = absurd (a w)
   isSpare-largest cap capped a w = record { most = omega arith; stands = a; largest = λ u l r. l }
   isSpare-largest cap (broken t xs) a w =

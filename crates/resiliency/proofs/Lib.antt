@@ -1,7 +1,6 @@
 pub mod Groups
 pub mod Breaking
 pub mod Laws
-pub mod Examples
 pub mod Answered
 pub mod Knowing
 pub mod Walking

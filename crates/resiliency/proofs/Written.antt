@@ -5,14 +5,9 @@ use Prim.Native.Nat.{ℕ, zero, suc, _≤_, _<_}
 use native.Mathlib.Omega.{arith}
 use lib.ListN.{length, drop, getD}
 use Rattle.card.specs.Refusals.{planFault}
-use Rattle.sheet.specs.Answer.{sheetOf}
-use Rattle.sheet.specs.declared.Sheet.{Sheet}
-use Rattle.sheet.specs.declared.Reading.{Reading}
-use Rattle.sheet.specs.declared.Reading.the-variants.{Readable, Refused}
-use Rattle.sheet.proofs.Refusals.{read-sheet-refusal}
 use Rattle.workflow.specs.Problem.{Job, May}
 use Rattle.answer.specs.Bytes.{longBytes, putAt, written}
-use Rattle.answer.specs.Number.{refusalNumber, Returnable}
+use Rattle.answer.specs.Number.{refusalNumber}
 use Rattle.answer.proofs.Put.{put-next}
 use Rattle.resiliency.specs.Count.{spare, IsSpare}
 use Rattle.resiliency.specs.Known.{told}

@@ -2,11 +2,15 @@ pub mod Fill
 pub mod Tests
 pub mod Clashes
 pub mod Checked
+pub mod Four
 pub mod Arrays
 pub mod Stage
 pub mod Order
+pub mod InOrder
+pub mod Indices
 pub mod Passes
 pub mod Lists
 pub mod Chains
 pub mod Readable
 pub mod Refusals
+pub mod NoFault

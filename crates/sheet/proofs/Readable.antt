@@ -4,99 +4,50 @@ use mathlib.Core.List.{List}
 use mathlib.Core.Path.{_≡_, refl, sym, _∙_, ap, subst}
 use Prim.Native.Nat.{ℕ, _/_, _^_, _<_, _≤_}
 use native.Mathlib.Omega.{arith}
-use native.Mathlib.Nat.{div-lt-iff-lt-mul, one-mul}
-use lib.Dec.{eqb, leb, ltb}
+use lib.Dec.{eqb, ltb}
 use lib.ListN.{length, getD}
-use lib.Pow.{pow-pos}
-use borrow.Author.Tests.{eqb-true, eqb-false, eq-eqb, leb-true, ltb-true, ltb-false, not-true, not-false}
+use borrow.Author.Tests.{eqb-true, eqb-false, eq-eqb, ltb-true, ltb-false, not-false}
 use Rattle.bits.specs.Below.{any}
-use Rattle.bits.proofs.Below.{by-cases, first-none, and-left, and-right}
+use Rattle.bits.proofs.Below.{by-cases, first-none}
 use Rattle.bits.proofs.Counting.{any-none}
-use Rattle.card.specs.Layout.{cardByte, cardWord, cardLong, personKind, stepKind, ruleKind}
-use Rattle.card.specs.Fields.{personOk, stepOk, ruleOk, tagOf, shopOf, benchOf, permittedOf, ruleKindOf, levelOf, limitOf, scopeOf, limitOk, scopeSize, nonzero, onlyBelow}
+use Rattle.card.specs.Layout.{personKind, stepKind, ruleKind}
+use Rattle.card.specs.Fields.{personOk, stepOk, ruleOk, tagOf, shopOf, benchOf, permittedOf, ruleKindOf, levelOf, limitOf, scopeOf, limitOk, scopeSize, onlyBelow}
 use Rattle.card.proofs.ByKind.{fields-person, fields-step, fields-rule}
 use Rattle.sheet.specs.Read.{Read, job, fault, firstClash, firstLate, sameTag, benchMoved, readSheet}
 use Rattle.sheet.specs.Answer.{answer, jobOf, table, sheetOf}
 use Rattle.sheet.specs.Readable.{ReadableJob, ReadSheet}
 use Rattle.sheet.specs.declared.Reading.the-variants.{Readable}
+use Rattle.sheet.specs.declared.SheetJob.{SheetJob}
 use Rattle.sheet.proofs.Chains.{chains}
 use Rattle.sheet.proofs.Fill.{getD-table, length-table}
+use Rattle.sheet.proofs.InOrder.{below-power, person-fields, step-fields, rule-fields}
 use Rattle.sheet.proofs.Passes.{Passes, sheet-passes}
 
--- a set without bits from n on is below 2 ^ n
-below-power : (n x : ℕ) → onlyBelow n x ≡ true → x < 2 ^ n
-below-power n x h =
-    let z : x / 2 ^ n ≡ 0 = eqb-true _ _ h in
-    subst (λ (m : ℕ). x < m) (one-mul (2 ^ n)) (div-lt-iff-lt-mul (pow-pos n) .0 (omega arith))
-
-above-zero : (x : ℕ) → nonzero x ≡ true → 0 < x
-above-zero x h = let z : x ≡ 0 → ⊥ = eqb-false x 0 (not-true (eqb x 0) h) in omega arith
-
--- the tests of a person card
-abbrev PersonTests : List ℕ → ℕ → Type 0
-PersonTests s c = (nonzero (tagOf s c) ≡ true) × (nonzero (shopOf s c) ≡ true) × (nonzero (benchOf s c) ≡ true)
-
-person-tests : (s : List ℕ) (c : ℕ) → personOk s c ≡ true → PersonTests s c
-unfolding personOk
-person-tests s c h = go (eqb (cardByte s c 1) 0) (nonzero (tagOf s c)) (nonzero (shopOf s c)) (nonzero (benchOf s c)) (onlyBelow 12 (permittedOf s c)) (eqb (cardWord s c 14) 0) h
-  where
-    go : (a t p b m z : Bool) → a && t && p && b && m && z ≡ true → (t ≡ true) × (p ≡ true) × (b ≡ true)
-    go a t p b m z h =
-        let x = and-left (a && t && p && b) m (and-left (a && t && p && b && m) z h) in
-        let y = and-left (a && t && p) b x in
-        (and-right a t (and-left (a && t) p y), and-right (a && t) p y, and-right (a && t && p) b x)
-
-step-tag-test : (s : List ℕ) (c : ℕ) → stepOk s c ≡ true → nonzero (tagOf s c) ≡ true
-unfolding stepOk
-step-tag-test s c h =
-    and-right (eqb (cardByte s c 1) 0) (nonzero (tagOf s c)) (and-left _ (eqb (cardLong s c 8) 0) (and-left _ (eqb (cardLong s c 12) 0) h))
-
--- the tests of a rule card: limit, level and scope
-abbrev RuleTests : List ℕ → ℕ → ℕ → Type 0
-RuleTests s steps c =
-    (limitOk (ruleKindOf s c) (limitOf s c) (scopeSize (scopeOf s c)) ≡ true)
-    × (leb 1 (levelOf s c) ≡ true)
-    × (leb (levelOf s c) 3 ≡ true)
-    × (onlyBelow steps (scopeOf s c) ≡ true)
-
-rule-tests : (s : List ℕ) (steps c : ℕ) → ruleOk s steps c ≡ true → RuleTests s steps c
-unfolding ruleOk
-rule-tests s steps c h =
-    let limit = limitOk (ruleKindOf s c) (limitOf s c) (scopeSize (scopeOf s c)) in
-    go limit (leb 1 (levelOf s c)) (leb (levelOf s c) 3) (onlyBelow steps (scopeOf s c)) (eqb (cardLong s c 8) 0) (eqb (cardLong s c 12) 0) h
-  where
-    go : (l a b p y z : Bool) → l && (a && b) && p && y && z ≡ true → (l ≡ true) × (a ≡ true) × (b ≡ true) × (p ≡ true)
-    go l a b p y z h =
-        let x = and-left (l && (a && b) && p) y (and-left (l && (a && b) && p && y) z h) in
-        let w = and-left (l && (a && b)) p x in
-        let v = and-right l (a && b) w in
-        (and-left l (a && b) w, and-left a b v, and-right a b v, and-right (l && (a && b)) p x)
-
 -- where nothing clashes no pair does
-no-clash : (n : ℕ) (clash : ℕ → ℕ → Bool) → n ≤ firstClash n clash → (j k : ℕ) → j < k → k < n → clash j k ≡ false
+pub no-clash : (n : ℕ) (clash : ℕ → ℕ → Bool) → n ≤ firstClash n clash → (j k : ℕ) → j < k → k < n → clash j k ≡ false
 unfolding firstClash
 no-clash n clash h j k l m =
     any-none k (λ i. clash i k) (first-none n (λ i. any i (λ x. clash x i)) k (omega arith)) j l
 
 module _ (s people steps rules : List ℕ) (n : ℕ) (p : Passes s n people steps rules) where
-  card-fields : (k : ℕ) → k < length people → personOk s (getD people k 0) ≡ true
-  card-fields k l = sym (fields-person s 0 personKind (getD people k 0) refl) ∙ chains s n people steps rules p .people-chain .fields k l
+  pub person-card : (k : ℕ) → k < length people → personOk s (getD people k 0) ≡ true
+  person-card k l = sym (fields-person s 0 personKind (getD people k 0) refl) ∙ chains s n people steps rules p .people-chain .fields k l
 
-  step-fields : (k : ℕ) → k < length steps → stepOk s (getD steps k 0) ≡ true
-  step-fields k l =
+  pub step-card : (k : ℕ) → k < length steps → stepOk s (getD steps k 0) ≡ true
+  step-card k l =
       sym (fields-step s 0 stepKind (getD steps k 0) (λ e. absurd (omega arith)) refl) ∙ chains s n people steps rules p .steps-chain .fields k l
 
-  rule-fields : (k : ℕ) → k < length rules → ruleOk s (length steps) (getD rules k 0) ≡ true
-  rule-fields k l =
+  pub rule-card : (k : ℕ) → k < length rules → ruleOk s (length steps) (getD rules k 0) ≡ true
+  rule-card k l =
       sym (fields-rule s (length steps) ruleKind (getD rules k 0) (λ e. absurd (omega arith)) (λ e. absurd (omega arith)))
       ∙ chains s n people steps rules p .rules-chain .fields k l
 
-  not-late : (k : ℕ) → k < length people → onlyBelow (length steps) (permittedOf s (getD people k 0)) ≡ true
+  pub not-late : (k : ℕ) → k < length people → onlyBelow (length steps) (permittedOf s (getD people k 0)) ≡ true
   unfolding firstLate
   not-late k l =
       not-false _ (first-none (length people) (λ i. not (onlyBelow (length steps) (permittedOf s (getD people i 0)))) k (omega (arith, p .no-late)))
 
-  later-shop : (i k : ℕ) → i < k → k < length people → benchOf s (getD people i 0) ≡ benchOf s (getD people k 0)
+  pub later-shop : (i k : ℕ) → i < k → k < length people → benchOf s (getD people i 0) ≡ benchOf s (getD people k 0)
       → shopOf s (getD people i 0) ≡ shopOf s (getD people k 0)
   later-shop i k l m e =
       let c : benchMoved s people i k ≡ false = no-clash (length people) (benchMoved s people) (p .benches) i k l m in
@@ -141,19 +92,19 @@ module _ (s people steps rules : List ℕ) (n : ℕ) (p : Passes s n people step
               limit = length-table 64 (limitOf s) rules (c .rules-chain .short);
             };
         person = λ k l.
-            let t = person-tests s (getD people k 0) (card-fields k l) in
+            let t = person-fields s (getD people k 0) (person-card k l) in
             record {
-              tag = at 64 (tagOf s) people k l (λ (v : ℕ). 0 < v) (above-zero _ (t .0));
-              shop = at 64 (shopOf s) people k l (λ (v : ℕ). 0 < v) (above-zero _ (t .1));
-              bench = at 64 (benchOf s) people k l (λ (v : ℕ). 0 < v) (above-zero _ (t .2));
+              tag = at 64 (tagOf s) people k l (λ (v : ℕ). 0 < v) (t .1);
+              shop = at 64 (shopOf s) people k l (λ (v : ℕ). 0 < v) (t .2);
+              bench = at 64 (benchOf s) people k l (λ (v : ℕ). 0 < v) (t .3);
               permitted = at 64 (permittedOf s) people k l (λ (v : ℕ). v < 2 ^ length steps) (below-power (length steps) _ (not-late k l));
             };
-        step-tag = λ k l. at 12 (tagOf s) steps k l (λ (v : ℕ). 0 < v) (above-zero _ (step-tag-test s _ (step-fields k l)));
+        step-tag = λ k l. at 12 (tagOf s) steps k l (λ (v : ℕ). 0 < v) (step-fields s _ (step-card k l) .1);
         rule = λ k l.
-            let t = rule-tests s (length steps) (getD rules k 0) (rule-fields k l) in
+            let t = rule-fields s (getD rules k 0) (length steps) (rule-card k l) in
             record {
-              level-from = at 64 (levelOf s) rules k l (λ (v : ℕ). 1 ≤ v) (leb-true 1 _ (t .1));
-              level-to = at 64 (levelOf s) rules k l (λ (v : ℕ). v ≤ 3) (leb-true _ 3 (t .2));
+              level-from = at 64 (levelOf s) rules k l (λ (v : ℕ). 1 ≤ v) (t .1);
+              level-to = at 64 (levelOf s) rules k l (λ (v : ℕ). v ≤ 3) (t .2);
               scope = at 64 (scopeOf s) rules k l (λ (v : ℕ). v < 2 ^ length steps) (below-power (length steps) _ (t .3));
               limit =
                   at 64 (ruleKindOf s) rules k l (λ (v : ℕ). limitOk v (getD (table 64 (limitOf s) rules) k 0) (scopeSize (getD (table 64 (scopeOf s) rules) k 0)) ≡ true)
@@ -171,6 +122,24 @@ module _ (s people steps rules : List ℕ) (n : ℕ) (p : Passes s n people step
             ∙ same-shop i k l m (sym (getD-table 64 (benchOf s) people i l) ∙ e ∙ getD-table 64 (benchOf s) people k m)
             ∙ sym (getD-table 64 (shopOf s) people k m);
       }
+
+-- a job with its later rules left out is in order too: what is asked of it is another thing
+pub fewer-rules : {people steps rules few : ℕ} {j : SheetJob} → ReadableJob people steps rules j → few ≤ rules → ReadableJob people steps few j
+fewer-rules r l =
+    record {
+      people-some = r .people-some;
+      people-most = r .people-most;
+      steps-some = r .steps-some;
+      steps-most = r .steps-most;
+      rules-most = omega (arith, r .rules-most);
+      sized = r .sized;
+      person = r .person;
+      step-tag = r .step-tag;
+      rule = λ i m. r .rule i (omega arith);
+      person-tags = r .person-tags;
+      step-tags = r .step-tags;
+      nested = r .nested;
+    }
 
 -- an answer with counts is the answer of a job
 answer-counts : (s : List ℕ) (r : Read) (people steps rules : ℕ) → answer s r .reading ≡ Readable people steps rules

@@ -1,26 +1,45 @@
--- A refusal of the reader is one of 3 to 12, at a card that a sheet can have. Assumes nothing.
-use mathlib.Core.Bool.{Bool, true, false, not}
+-- A refusal of the reader is a fault of the sheet at the card that it names; it is one of 3 to 12, at a card that a sheet can have.
+-- Assumes nothing.
+use mathlib.Core.Bool.{Bool, true, false, not, _||_}
 use mathlib.Core.List.{List, []}
-use mathlib.Core.Path.{_≡_, refl, ap₂, subst}
-use Prim.Native.Nat.{ℕ, _/_, _<_, _≤_}
+use mathlib.Core.Logic.{inl, inr}
+use mathlib.Core.Path.{_≡_, refl, sym, _∙_, ap, ap₂, subst}
+use Prim.Native.Nat.{ℕ, zero, suc, _<_, _≤_}
 use native.Mathlib.Omega.{arith}
 use lib.Dec.{eqb, ltb}
 use lib.ListN.{length, getD}
-use borrow.Author.Tests.{ltb-true, not-false}
-use Rattle.card.specs.Fields.{headerOk}
-use Rattle.chain.specs.Walk.{Walked, Chain, listed, refused, walk}
+use borrow.Author.Tests.{eqb-true, eqb-false, eq-eqb, ne-eqb, ltb-true, not-true, not-false}
+use Rattle.bits.specs.Below.{any}
+use Rattle.bits.specs.Member.{member}
+use Rattle.bits.proofs.Below.{by-cases, true-false, below-suc, and-left, and-right, first-has, first-none}
+use Rattle.bits.proofs.Counting.{any-at, any-none}
+use Rattle.bits.proofs.Masks.{or-cases, or-left, or-right}
+use Rattle.bits.proofs.Member.{member-place, member-has, member-not}
+use Rattle.card.specs.Layout.{kindOf, personKind, stepKind, ruleKind}
+use Rattle.card.specs.Fields.{headerOk, fieldsOk, benchOf, permittedOf, onlyBelow}
+use Rattle.card.specs.Refusals.{lengthFault, headerFault, fieldFault, countFault, tagFault, benchFault, looseFault}
+use Rattle.card.proofs.ByKind.{fields-person, fields-step, fields-rule}
+use Rattle.chain.specs.Walk.{Walked, listed, refused, walk}
+use Rattle.chain.specs.Answer.{chainOf}
+use Rattle.chain.specs.Chained.{Upto, StopsAt, at-index, at-reached, at-count, at-kind, at-fields}
 use Rattle.chain.proofs.Chained.{walk-chained}
-use Rattle.chain.proofs.Refused.{walk-refused}
-use Rattle.sheet.specs.Read.{Read, job, fault, along, unless, unlessAt, lengthOk, checked, stepsRead, peopleRead, readPeople, readSheet}
-use Rattle.sheet.specs.Read.{firstClash, firstLate, firstLoose, sameTag, benchMoved, onThree}
+use Rattle.chain.proofs.Refused.{walk-stopped}
+use Rattle.sheet.specs.Read.{Read, job, fault, along, unless, lengthOk, checked, stepsRead, peopleRead, readPeople, readSheet}
+use Rattle.sheet.specs.Read.{firstClash, firstLate, firstLoose, sameTag, benchMoved, onTwo, onThree}
 use Rattle.sheet.specs.Answer.{answer, sheetOf}
+use Rattle.sheet.specs.Faults as faults
+use Rattle.sheet.specs.Faults.{ChainName, peopleChain, stepsChain, rulesChain, rank, firstIndex, kindAlong, mostAlong, indexAt, cardsIn}
+use Rattle.sheet.specs.Faults.{ComesTo, InOrder, FirstClashing, SameTags, SameBenchOtherShop, OnNoChain, Fault}
 use Rattle.sheet.specs.Readable.{ReadRefusal}
 use Rattle.sheet.specs.declared.Reading.the-variants.{Refused}
+use Rattle.sheet.proofs.InOrder.{only-below, length-wrong, header-true, person-true, step-true, rule-true}
+use Rattle.sheet.proofs.Indices.{index-card, upto-leads, upto-comes, upto-holder, index-next, next-comes}
+use Rattle.sheet.proofs.Indices.{Traced, traced, comes-before-end, comes-card, member-comes}
 use Rattle.sheet.proofs.Order.{length-facts}
 
 -- a refusal of a test, or of what follows it
 unless-fault : {P : Type 0} (t : Bool) (f c : ℕ) (r : Read) (g d : ℕ) → unless t f c r ≡ fault g d
-    → (t ≡ true → f ≡ g → c ≡ d → P) → (t ≡ false → r ≡ fault g d → P) → P
+    → (t ≡ true → g ≡ f → c ≡ d → P) → (t ≡ false → r ≡ fault g d → P) → P
 unless-fault true f c r g d e yes′ on = yes′ refl (cc) (cc)
 unless-fault false f c r g d e yes′ on = on refl e
 
@@ -29,58 +48,300 @@ along-fault : {P : Type 0} (w : Walked) (next : List ℕ → Read) (g d : ℕ) �
 along-fault (listed l) next g d e stop on = on l refl e
 along-fault (refused f c) next g d e stop on = stop (ap₂ refused (cc) (cc))
 
-module _ (s : List ℕ) (n : ℕ) (some : 0 < n) (most : n ≤ 141) (g d : ℕ) where
-  -- a refusal at a card of a list of cards of the file
-  at-card : (f : ℕ) (l : List ℕ) (i : ℕ) (r : Read) → (3 ≤ f) → (f ≤ 12) → ((k : ℕ) → k < length l → getD l k 0 < n)
-      → unlessAt l i f r ≡ fault g d → (r ≡ fault g d → ReadRefusal g d) → ReadRefusal g d
-  at-card f l i r a b inside e on =
-      unless-fault (ltb i (length l)) f (getD l i 0) r g d e
-      (λ t x y. let z : getD l i 0 < n = inside i (ltb-true _ _ t) in record { from = omega arith; to = omega arith; card = omega arith })
-      (λ t. on)
+-- ---- a chain
 
-  at-zero : (t : Bool) (f : ℕ) (r : Read) → (3 ≤ f) → (f ≤ 12) → unless t f 0 r ≡ fault g d → (t ≡ false → r ≡ fault g d → ReadRefusal g d) → ReadRefusal g d
-  at-zero t f r a b e on = unless-fault t f 0 r g d e (λ t x y. record { from = omega arith; to = omega arith; card = omega arith }) on
+-- what the cards before are, and which cards pass the tests
+module _ (s : List ℕ) (k : ChainName) (steps : ℕ) (before : ℕ → Bool)
+    (came : (c : ℕ) → before c ≡ true → (l : ChainName) × (j : ℕ) × (rank l < rank k) × ComesTo s l j c)
+    (passes : (c : ℕ) → InOrder s k c → fieldsOk s steps (kindAlong k) c ≡ true) where
+  stop-fault : (taken : List ℕ) (i f c : ℕ) → 0 < i → Upto (chainOf s (cardsIn s) (kindAlong k) steps before) (firstIndex s k) taken i
+      → StopsAt (chainOf s (cardsIn s) (kindAlong k) steps before) (mostAlong k) taken i f c → Fault s f c
+  stop-fault taken i f c z u (at-index e d l) =
+      let n = index-next s k (kindAlong k) steps before taken i u in
+      faults.index-too-high e
+      (record {
+        chain = k;
+        number = length taken;
+        leads = upto-leads s k (kindAlong k) steps before taken i u;
+        high = omega arith;
+        card = d ∙ upto-holder s k (kindAlong k) steps before taken i u;
+      })
+  stop-fault taken i f c z u (at-reached e d l t) =
+      let here : ComesTo s k (length taken) c = subst (ComesTo s k (length taken)) (sym d) (next-comes s k (kindAlong k) steps before taken i u z l) in
+      or-cases (before i) (member taken i) t
+      (λ b. let w = came i b in
+      faults.reached-before e
+      (record {
+        chain = k;
+        number = length taken;
+        comes = here;
+        earlier-chain = w .0;
+        earlier-number = w .1;
+        came = subst (ComesTo s (w .0) (w .1)) (sym d) (w .3);
+        earlier = inl (w .2);
+      }))
+      (λ b. let w = member-place taken i b in
+      faults.reached-before e
+      (record {
+        chain = k;
+        number = length taken;
+        comes = here;
+        earlier-chain = k;
+        earlier-number = w .0;
+        came = subst (ComesTo s k (w .0)) (w .2 ∙ sym d) (upto-comes s k (kindAlong k) steps before taken i u (w .0) (w .1));
+        earlier = inr (refl, w .1);
+      }))
+  stop-fault taken i f c z u (at-count e d l n t) =
+      faults.too-many e
+      (record {
+        chain = k;
+        comes = subst (λ (m : ℕ). ComesTo s k m c) n (subst (ComesTo s k (length taken)) (sym d) (next-comes s k (kindAlong k) steps before taken i u z l));
+        apart = λ a b m h q. below-suc (length taken) b (omega arith)
+            (λ v. u .apart b v a m (sym (index-card s k (kindAlong k) steps before taken i u a (omega arith)) ∙ q ∙ index-card s k (kindAlong k) steps before taken i u b v))
+            (λ v. member-not taken i t a (omega arith)
+            (sym (index-card s k (kindAlong k) steps before taken i u a (omega arith)) ∙ q ∙ ap (indexAt s k) v ∙ index-next s k (kindAlong k) steps before taken i u));
+      })
+  stop-fault taken i f c z u (at-kind e d l t) =
+      faults.other-kind e
+      (record {
+        chain = k;
+        number = length taken;
+        comes = subst (ComesTo s k (length taken)) (sym d) (next-comes s k (kindAlong k) steps before taken i u z l);
+        other = λ q. eqb-false (kindOf s i) (kindAlong k) t (ap (kindOf s) (sym d) ∙ q);
+      })
+  stop-fault taken i f c z u (at-fields e d l t) =
+      faults.wrong-field e
+      (record {
+        chain = k;
+        number = length taken;
+        comes = subst (ComesTo s k (length taken)) (sym d) (next-comes s k (kindAlong k) steps before taken i u z l);
+        wrong = λ o. true-false (passes i (subst (InOrder s k) d o)) t;
+      })
 
-  checked-refusal : (people steps rules : List ℕ) → ((k : ℕ) → k < length people → getD people k 0 < n) → ((k : ℕ) → k < length steps → getD steps k 0 < n)
-      → checked s n people steps rules ≡ fault g d → ReadRefusal g d
-  unfolding checked
-  checked-refusal people steps rules ip is e =
-      at-card 10 people (firstClash (length people) (sameTag s people)) _ (omega arith) (omega arith) ip e
-      (λ e₁. at-card 10 steps (firstClash (length steps) (sameTag s steps)) _ (omega arith) (omega arith) is e₁
-      (λ e₂. at-card 11 people (firstClash (length people) (benchMoved s people)) _ (omega arith) (omega arith) ip e₂
-      (λ e₃.
-      let c = firstLoose n (onThree people steps rules) in
-      unless-fault (ltb c n) 12 c _ g d e₃
-      (λ t x y. let z : c < n = ltb-true _ _ t in record { from = omega arith; to = omega arith; card = omega arith })
-      (λ t z. let a : _≡_ {A = ℕ} 0 1 = cc in absurd (omega arith)))))
+  chain-fault : (f c : ℕ) → walk (chainOf s (cardsIn s) (kindAlong k) steps before) (mostAlong k) [] 0 (firstIndex s k) ≡ refused f c → Fault s f c
+  chain-fault f c e =
+      let w = walk-stopped (chainOf s (cardsIn s) (kindAlong k) steps before) (mostAlong k) (firstIndex s k) f c e in
+      stop-fault (w .taken) (w .index) f c (w .some) (w .upto) (w .why)
 
-  chain-refusal : (k : Chain) (most first : ℕ) → k .cards ≡ n → walk k most [] 0 first ≡ refused g d → ReadRefusal g d
-  chain-refusal k m i c w =
-      let r = walk-refused k m [] 0 i g d (omega arith) w in
-      record { from = omega (arith, r .0); to = omega (arith, r .1); card = omega (arith, r .2) }
+-- a chain without cards has no first one
+none-first : {s : List ℕ} {k : ChainName} {l : List ℕ} → Traced s k l → eqb (length l) 0 ≡ true → firstIndex s k ≡ 0
+unfolding indexAt
+none-first {s} {k} {l} t e = ap (indexAt s k) (sym (eqb-true (length l) 0 e)) ∙ t .ends .ends
 
-  people-refusal : readPeople s n ≡ fault g d → ReadRefusal g d
-  unfolding readPeople peopleRead stepsRead
-  people-refusal e =
-      along-fault _ (λ people. peopleRead s n people) g d e (chain-refusal _ _ _ refl)
-      (λ people wp e₁. at-zero (eqb (length people) 0) 9 _ (omega arith) (omega arith) e₁
-      (λ t₁ e₂. along-fault _ (λ steps. stepsRead s n people steps) g d e₂ (chain-refusal _ _ _ refl)
-      (λ steps ws e₃. at-zero (eqb (length steps) 0) 9 _ (omega arith) (omega arith) e₃
-      (λ t₂ e₄.
-      let ip = walk-chained _ _ _ people wp .inside in
-      at-card 8 people (firstLate s (length steps) people) _ (omega arith) (omega arith) ip e₄
-      (λ e₅. along-fault _ (λ rules. checked s n people steps rules) g d e₅ (chain-refusal _ _ _ refl)
-      (λ rules wr e₆. checked-refusal people steps rules ip (walk-chained _ _ _ steps ws .inside) e₆))))))
+-- ---- the first card that clashes
 
-pub sheet-refusal : (s : List ℕ) (g d : ℕ) → readSheet s ≡ fault g d → ReadRefusal g d
+module _ {s : List ℕ} {k : ChainName} {l : List ℕ} (t : Traced s k l) (test : ℕ → ℕ → Bool) (clash : ℕ → ℕ → Type 0)
+    (is-clash : (i j : ℕ) → test i j ≡ true → clash (getD l i 0) (getD l j 0))
+    (is-found : (i j : ℕ) → clash (getD l i 0) (getD l j 0) → test i j ≡ true) where
+  first-clashing : firstClash (length l) test < length l → FirstClashing s k clash (getD l (firstClash (length l) test) 0)
+  unfolding firstClash
+  first-clashing h =
+      let i = firstClash (length l) test in
+      let w = any-at i (λ j. test j i) (first-has (length l) (λ m. any m (λ j. test j m)) h) in
+      record {
+        number = i;
+        clashes =
+            record {
+              comes = t .each i h;
+              earlier-number = w .0;
+              earlier-card = getD l (w .0) 0;
+              earlier = w .1;
+              came = t .each (w .0) (omega (arith, w .1));
+              another = t .apart (w .0) i (w .1) h;
+              clashing = is-clash (w .0) i (w .2);
+            };
+        first = λ j d m c.
+            let at-a = comes-card t (c .earlier-number) (c .earlier-card) (c .came) in
+            let at-d = comes-card t j d (c .comes) in
+            let both : clash (getD l (c .earlier-number) 0) (getD l j 0)
+            = subst (λ (x : ℕ). clash x (getD l j 0)) (sym at-a) (subst (clash (c .earlier-card)) (sym at-d) (c .clashing)) in
+            true-false (is-found (c .earlier-number) j both)
+            (any-none j (λ x. test x j) (first-none (length l) (λ m. any m (λ x. test x m)) j m) (c .earlier-number) (c .earlier));
+      }
+
+-- ---- the whole sheet
+
+module _ (s : List ℕ) (g d : ℕ) where
+  module _ (people steps : List ℕ) (tp : Traced s peopleChain people) (ts : Traced s stepsChain steps) where
+    loose : (rules : List ℕ) → Traced s rulesChain rules → firstLoose (cardsIn s) (onThree people steps rules) < cardsIn s
+        → OnNoChain s (firstLoose (cardsIn s) (onThree people steps rules))
+    unfolding firstLoose
+    loose rules tr h =
+        let c = firstLoose (cardsIn s) (onThree people steps rules) in
+        let miss : (eqb c 0 || onThree people steps rules c) ≡ false
+        = not-true _ (first-has (cardsIn s) (λ x. not (eqb x 0 || onThree people steps rules x)) h) in
+        record {
+          some = by-cases (eqb c 0) (λ t. true-false (or-left (eqb c 0) (onThree people steps rules c) t) miss) (λ t. let n = eqb-false c 0 t in omega arith);
+          inside = h;
+          none = λ k j w. true-false (or-right (eqb c 0) (onThree people steps rules c) (on k j w)) miss;
+          lowest = λ e l m.
+              let hit : (eqb e 0 || onThree people steps rules e) ≡ true
+              = not-false _ (first-none (cardsIn s) (λ x. not (eqb x 0 || onThree people steps rules x)) e m) in
+              or-cases (eqb e 0) (onThree people steps rules e) hit
+              (λ t. let z : e ≡ 0 = eqb-true e 0 t in absurd (omega arith))
+              (λ t. or-cases (onTwo people steps e) (member rules e) t
+              (λ v. or-cases (member people e) (member steps e) v
+              (λ q. let w = member-comes tp e q in (peopleChain, w .0, w .1))
+              (λ q. let w = member-comes ts e q in (stepsChain, w .0, w .1)))
+              (λ v. let w = member-comes tr e v in (rulesChain, w .0, w .1)));
+        }
+      where
+        on : (k : ChainName) (j : ℕ) {c : ℕ} → ComesTo s k j c → onThree people steps rules c ≡ true
+        on peopleChain j {c} w =
+            or-left (onTwo people steps c) (member rules c)
+            (or-left (member people c) (member steps c) (member-has people j c (comes-before-end tp j c w) (comes-card tp j c w)))
+        on stepsChain j {c} w =
+            or-left (onTwo people steps c) (member rules c)
+            (or-right (member people c) (member steps c) (member-has steps j c (comes-before-end ts j c w) (comes-card ts j c w)))
+        on rulesChain j {c} w = or-right (onTwo people steps c) (member rules c) (member-has rules j c (comes-before-end tr j c w) (comes-card tr j c w))
+
+    checked-fault : (rules : List ℕ) → Traced s rulesChain rules → checked s (cardsIn s) people steps rules ≡ fault g d → Fault s g d
+    unfolding checked
+    checked-fault rules tr e =
+        let i = firstClash (length people) (sameTag s people) in
+        let j = firstClash (length steps) (sameTag s steps) in
+        let b = firstClash (length people) (benchMoved s people) in
+        let c = firstLoose (cardsIn s) (onThree people steps rules) in
+        unless-fault (ltb i (length people)) tagFault (getD people i 0) _ g d e
+        (λ t x y. faults.tag-twice x
+        (inl (subst (FirstClashing s peopleChain (SameTags s)) y
+        (first-clashing tp (sameTag s people) (SameTags s) (λ v w. eqb-true _ _) (λ v w. eq-eqb _ _) (ltb-true _ _ t)))))
+        (λ t e₁. unless-fault (ltb j (length steps)) tagFault (getD steps j 0) _ g d e₁
+        (λ t x y. faults.tag-twice x
+        (inr (subst (FirstClashing s stepsChain (SameTags s)) y
+        (first-clashing ts (sameTag s steps) (SameTags s) (λ v w. eqb-true _ _) (λ v w. eq-eqb _ _) (ltb-true _ _ t)))))
+        (λ t e₂. unless-fault (ltb b (length people)) benchFault (getD people b 0) _ g d e₂
+        (λ t x y. faults.bench-in-two-shops x
+        (subst (FirstClashing s peopleChain (SameBenchOtherShop s)) y
+        (first-clashing tp (benchMoved s people) (SameBenchOtherShop s)
+        (λ v w h. (eqb-true _ _ (and-left _ _ h), eqb-false _ _ (not-true _ (and-right (eqb (benchOf s (getD people v 0)) (benchOf s (getD people w 0))) _ h))))
+        (λ v w h. rw (eq-eqb _ _ (h .0), ne-eqb _ _ (h .1)) refl) (ltb-true _ _ t))))
+        (λ t e₃. unless-fault (ltb c (cardsIn s)) looseFault c _ g d e₃
+        (λ t x y. faults.on-no-chain x (subst (OnNoChain s) y (loose rules tr (ltb-true _ _ t))))
+        (λ t z. let a : _≡_ {A = ℕ} 0 1 = cc in absurd (omega arith)))))
+
+    -- the rules chain, and what follows it
+    rules-fault : along (walk (chainOf s (cardsIn s) ruleKind (length steps) (onTwo people steps)) 64 [] 0 (firstIndex s rulesChain)) (checked s (cardsIn s) people steps) ≡ fault g d → Fault s g d
+    rules-fault e =
+        along-fault _ (checked s (cardsIn s) people steps) g d e
+        (chain-fault s rulesChain (length steps) (onTwo people steps) came
+        (λ c o. fields-rule s (length steps) ruleKind c (λ e. omega arith) (λ e. omega arith) ∙ rule-true s c (length steps) (ts .ends) o) g d)
+        (λ rules w. checked-fault rules (traced s rulesChain ruleKind (length steps) 64 (onTwo people steps) rules (walk-chained _ _ _ rules w)))
+      where
+        came : (c : ℕ) → onTwo people steps c ≡ true → (l : ChainName) × (j : ℕ) × (rank l < 2) × ComesTo s l j c
+        came c t =
+            or-cases (member people c) (member steps c) t
+            (λ q. let w = member-comes tp c q in (peopleChain, w .0, omega arith, w .1))
+            (λ q. let w = member-comes ts c q in (stepsChain, w .0, omega arith, w .1))
+
+    -- permitted bits from the number of steps on
+    late : (length steps ≡ 0 → ⊥) → firstLate s (length steps) people < length people
+        → faults.WrongField s (getD people (firstLate s (length steps) people) 0)
+    unfolding firstLate
+    late z h =
+        let i = firstLate s (length steps) people in
+        record {
+          chain = peopleChain;
+          number = i;
+          comes = tp .each i h;
+          wrong = λ o.
+              true-false (only-below (length steps) (permittedOf s (getD people i 0)) (o .steps (length steps) (ts .ends) (omega arith)))
+              (not-true _ (first-has (length people) (λ m. not (onlyBelow (length steps) (permittedOf s (getD people m 0)))) h));
+        }
+
+    steps-fault : stepsRead s (cardsIn s) people steps ≡ fault g d → Fault s g d
+    unfolding stepsRead
+    steps-fault e =
+        unless-fault (eqb (length steps) 0) countFault 0 _ g d e
+        (λ t x y. faults.none-along x (record { card = sym y; none = inr (none-first ts t) }))
+        (λ t e₁. unless-fault (ltb (firstLate s (length steps) people) (length people)) fieldFault (getD people (firstLate s (length steps) people) 0) _ g d e₁
+        (λ u x y. faults.wrong-field x (subst (faults.WrongField s) y (late (eqb-false _ _ t) (ltb-true _ _ u))))
+        (λ u. rules-fault))
+
+  people-fault : readPeople s (cardsIn s) ≡ fault g d → Fault s g d
+  unfolding readPeople peopleRead
+  people-fault e =
+      along-fault _ (peopleRead s (cardsIn s)) g d e
+      (chain-fault s peopleChain 0 (λ c. false) (λ c t. true-false t refl) (λ c o. fields-person s 0 personKind c refl ∙ person-true s c o) g d)
+      (λ people wp e₁.
+      let tp = traced s peopleChain personKind 0 64 (λ c. false) people (walk-chained _ _ _ people wp) in
+      unless-fault (eqb (length people) 0) countFault 0 _ g d e₁
+      (λ t x y. faults.none-along x (record { card = sym y; none = inl (none-first tp t) }))
+      (λ t e₂. along-fault _ (stepsRead s (cardsIn s) people) g d e₂
+      (chain-fault s stepsChain 0 (member people) (λ c q. let w = member-comes tp c q in (peopleChain, w .0, omega arith, w .1))
+      (λ c o. fields-step s 0 stepKind c (λ e. omega arith) refl ∙ step-true s c o) g d)
+      (λ steps ws. steps-fault people steps tp (traced s stepsChain stepKind 0 12 (member people) steps (walk-chained _ _ _ steps ws)))))
+
+-- "A refusal given is a fault there"
+pub refusal-is-fault : (s : List ℕ) (f c : ℕ) → readSheet s ≡ fault f c → Fault s f c
 unfolding readSheet
-sheet-refusal s g d e =
-    unless-fault (not (lengthOk (length s))) 3 0 _ g d e
-    (λ t x y. record { from = omega arith; to = omega arith; card = omega arith })
-    (λ t e₁.
-    let l = length-facts (length s) (not-false _ t) in
-    at-zero s (length s / 16) (l .1 .1) (l .1 .2) g d (not (headerOk s (length s / 16))) 4 _ (omega arith) (omega arith) e₁
-    (λ u e₂. people-refusal s (length s / 16) (l .1 .1) (l .1 .2) g d e₂))
+refusal-is-fault s f c e =
+    unless-fault (not (lengthOk (length s))) lengthFault 0 _ f c e
+    (λ t x y. faults.wrong-length x (record { card = sym y; wrong = length-wrong (length s) (not-true _ t) }))
+    (λ t e₁. unless-fault (not (headerOk s (cardsIn s))) headerFault 0 _ f c e₁
+    (λ u x y. faults.wrong-header x (record { card = sym y; wrong = λ o. true-false (header-true s o) (not-true _ u) }))
+    (λ u. people-fault s f c))
+
+-- which refusals there are, and at which cards
+pub fault-range : (s : List ℕ) (f c : ℕ) → Fault s f c → (3 ≤ f) × (f ≤ 12)
+fault-range s f c (faults.wrong-length e w) = (omega arith, omega arith)
+fault-range s f c (faults.wrong-header e w) = (omega arith, omega arith)
+fault-range s f c (faults.index-too-high e w) = (omega arith, omega arith)
+fault-range s f c (faults.reached-before e w) = (omega arith, omega arith)
+fault-range s f c (faults.other-kind e w) = (omega arith, omega arith)
+fault-range s f c (faults.wrong-field e w) = (omega arith, omega arith)
+fault-range s f c (faults.none-along e w) = (omega arith, omega arith)
+fault-range s f c (faults.too-many e w) = (omega arith, omega arith)
+fault-range s f c (faults.tag-twice e w) = (omega arith, omega arith)
+fault-range s f c (faults.bench-in-two-shops e w) = (omega arith, omega arith)
+fault-range s f c (faults.on-no-chain e w) = (omega arith, omega arith)
+
+comes-inside : {s : List ℕ} {k : ChainName} (j : ℕ) {c : ℕ} → ComesTo s k j c → c < cardsIn s
+comes-inside j w = let l = w .leads j (omega arith) .1 in let e = w .index in omega arith
+
+holder-inside : (s : List ℕ) (k : ChainName) (j : ℕ) → 0 < cardsIn s → faults.LeadsUpTo s k j → faults.holderAt s k j < cardsIn s
+holder-inside s k zero z w = z
+holder-inside s k (suc j) z w = w j (omega arith) .1
+
+-- the card of a fault is one of the file, where it has cards at all
+pub fault-inside : (s : List ℕ) (f c : ℕ) → 0 < cardsIn s → Fault s f c → c < cardsIn s
+fault-inside s f c z (faults.wrong-length e w) = let d = w .card in omega arith
+fault-inside s f c z (faults.wrong-header e w) = let d = w .card in omega arith
+fault-inside s f c z (faults.index-too-high e w) = let d = w .card in let l = holder-inside s (w .chain) (w .number) z (w .leads) in omega arith
+fault-inside s f c z (faults.reached-before e w) = comes-inside (w .number) (w .comes)
+fault-inside s f c z (faults.other-kind e w) = comes-inside (w .number) (w .comes)
+fault-inside s f c z (faults.wrong-field e w) = comes-inside (w .number) (w .comes)
+fault-inside s f c z (faults.none-along e w) = let d = w .card in omega arith
+fault-inside s f c z (faults.too-many e w) = comes-inside (mostAlong (w .chain)) (w .comes)
+fault-inside s f c z (faults.tag-twice e (inl w)) = comes-inside (w .number) (w .clashes .comes)
+fault-inside s f c z (faults.tag-twice e (inr w)) = comes-inside (w .number) (w .clashes .comes)
+fault-inside s f c z (faults.bench-in-two-shops e w) = comes-inside (w .number) (w .clashes .comes)
+fault-inside s f c z (faults.on-no-chain e w) = w .inside
+
+-- a sheet of a wrong length is refused for it
+wrong-length-first : (s : List ℕ) (f c : ℕ) → lengthOk (length s) ≡ false → readSheet s ≡ fault f c → (f ≡ lengthFault) × (c ≡ 0)
+unfolding readSheet
+wrong-length-first s f c t e = let d : fault lengthFault 0 ≡ fault f c = rw t at e in (cc, cc)
+
+-- any other refusal is at a card of the file
+pub refusal-inside : (s : List ℕ) (f c : ℕ) → readSheet s ≡ fault f c → (f ≡ lengthFault → ⊥) → c < cardsIn s
+refusal-inside s f c e n =
+    by-cases (lengthOk (length s))
+    (λ t. fault-inside s f c (length-facts (length s) t .1 .1) (refusal-is-fault s f c e))
+    (λ t. absurd (n (wrong-length-first s f c t e .0)))
+
+pub sheet-refusal : (s : List ℕ) (f c : ℕ) → readSheet s ≡ fault f c → ReadRefusal f c
+sheet-refusal s f c e =
+    let w = refusal-is-fault s f c e in
+    let r = fault-range s f c w in
+    record {
+      from = r .0;
+      to = r .1;
+      card =
+          by-cases (lengthOk (length s))
+          (λ t. let l = length-facts (length s) t .1 in omega (arith, fault-inside s f c (l .1) w, l .2))
+          (λ t. omega (arith, wrong-length-first s f c t e .1));
+    }
 
 pub read-sheet-refusal : (s : List ℕ) (f c : ℕ) → sheetOf s .reading ≡ Refused f c → ReadRefusal f c
 unfolding answer

@@ -1,5 +1,5 @@
 -- What the reader knows of a list of cards while it reads. Assumes nothing.
-use mathlib.Core.Bool.{Bool, false, not, _&&_}
+use mathlib.Core.Bool.{Bool, false, not, cond, _&&_}
 use mathlib.Core.List.{List}
 use mathlib.Core.Path.{_≡_}
 use Prim.Native.Nat.{ℕ, _+_, _*_, _<_, _≤_}
@@ -27,3 +27,7 @@ equalAt tags j k = eqb (getD tags j 0) (getD tags k 0)
 -- one bench with two shops
 abbrev pub movedAt : List ℕ → List ℕ → ℕ → ℕ → Bool
 movedAt benches shops j k = equalAt benches j k && not (equalAt shops j k)
+
+-- which of four is the first that is true, counted from 1; 0 where none is
+unfoldable pub firstOfFour : Bool → Bool → Bool → Bool → ℕ
+firstOfFour a b c d = cond a 1 (cond b 2 (cond c 3 (cond d 4 0)))

@@ -5,7 +5,7 @@ ghost use Prim.Native.Nat.{ℕ, _*_, _<_, _≤_};
 ghost use lib.ListN.{length, take};
 ghost use Rattle.bits.specs.Member.{member};
 ghost use Rattle.sheet.specs.Answer.{answer, jobOf};
-ghost use Rattle.sheet.specs.Cards.{Listing, Marking};
+ghost use Rattle.sheet.specs.Cards.{Listing, Marking, firstOfFour};
 ghost use Rattle.sheet.specs.Read.{fault, onTwo, onThree, checked, readPeople, peopleRead, stepsRead};
 use crate::Reading;
 use crate::Sheet;
@@ -94,6 +94,26 @@ fn fill_job(
     }
 }
 
+// The first that was found of a tag on two `people`, a tag on two `steps`, a bench in two shops and a `loose` card,
+// counted from 1; 0 for none of them.
+fn first_found(people: bool, steps: bool, benches: bool, loose: bool) -> u32
+    ensures { λ r. ⌜ r ≡ firstOfFour people steps benches loose ⌝ }
+{
+    if people {
+        return 1;
+    }
+    if steps {
+        return 2;
+    }
+    if benches {
+        return 3;
+    }
+    if loose {
+        return 4;
+    }
+    0
+}
+
 // The tags, the benches and the loose cards: reads on when every chain is listed.
 fn after_rules(
     s: &[u8],
@@ -111,32 +131,26 @@ fn after_rules(
 {
     let job = fill_job(s, people, p, steps, n, rules, r);
     let person_tag = job.person_tag;
-    let i = tag_clash(&person_tag, p);
-    if i < p {
-        return refused(TAG_FAULT, people[i] as usize);
-    }
     let step_tag = job.step_tag;
-    let j = tag_clash(&step_tag, n);
-    if j < n {
-        return refused(TAG_FAULT, steps[j] as usize);
-    }
     let bench = job.bench;
     let shop = job.shop;
+    let i = tag_clash(&person_tag, p);
+    let j = tag_clash(&step_tag, n);
     let k = bench_clash(&bench, &shop, p);
-    if k < p {
-        return refused(BENCH_FAULT, people[k] as usize);
-    }
     let c = first_loose(marks, cards);
-    if c < cards {
-        return refused(LOOSE_FAULT, c);
-    }
-    Sheet {
-        reading: Reading::Readable {
-            people: p,
-            steps: n,
-            rules: r,
+    match first_found(i < p, j < n, k < p, c < cards) {
+        1 => refused(TAG_FAULT, people[i] as usize),
+        2 => refused(TAG_FAULT, steps[j] as usize),
+        3 => refused(BENCH_FAULT, people[k] as usize),
+        4 => refused(LOOSE_FAULT, c),
+        _ => Sheet {
+            reading: Reading::Readable {
+                people: p,
+                steps: n,
+                rules: r,
+            },
+            job,
         },
-        job,
     }
 }
 

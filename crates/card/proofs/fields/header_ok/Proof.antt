@@ -21,7 +21,14 @@ long-requires c κs = search needs
 
 returns : tie.Need-returns
 unfolding headerOk
-returns c = cc
+returns c =
+    rw (
+      c .long .ensures .0,
+      c .before .word2 .ensures .0,
+      c .before .before .word .ensures .0,
+      c .before .before .before .byte2 .ensures .0,
+      c .before .before .before .before .byte .ensures .0,
+    )
 
 pub header-ok-spec : {M : Type 1} → statement M
 header-ok-spec =

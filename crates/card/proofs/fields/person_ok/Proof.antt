@@ -24,7 +24,15 @@ word-requires-4 c κs = search needs
 
 returns : tie.Need-returns
 unfolding personOk
-returns c = cc
+returns c =
+    rw (
+      c .word4 .ensures .0,
+      c .before .word3 .ensures .0,
+      c .before .before .word2 .ensures .0,
+      c .before .before .before .word .ensures .0,
+      c .before .before .before .before .long .ensures .0,
+      c .before .before .before .before .before .byte .ensures .0,
+    )
 
 pub person-ok-spec : {M : Type 1} → statement M
 person-ok-spec =

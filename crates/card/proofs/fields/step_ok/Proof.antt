@@ -18,7 +18,8 @@ long-requires-3 c κs = search needs
 
 returns : tie.Need-returns
 unfolding stepOk
-returns c = cc
+returns c =
+    rw (c .long3 .ensures .0, c .before .long2 .ensures .0, c .before .before .long .ensures .0, c .before .before .before .byte .ensures .0)
 
 pub step-ok-spec : {M : Type 1} → statement M
 step-ok-spec =

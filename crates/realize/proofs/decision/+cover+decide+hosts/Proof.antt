@@ -198,7 +198,8 @@ hosts-take-requires : (t : ℕ) → hosts-lts.Need-take-requires (hosts-claims t
 hosts-take-requires t c κs = search needs
 
 -- the start of the call whose turn it is
-abbrev hosts-start : (t : ℕ) → hosts-lts.After-take (hosts-claims t) (hosts-at t) hosts.Post hosts-Inv-loop hosts-μ-loop → hosts-lts.Start (hosts-claims t) (hosts-at t) hosts.Post hosts-Inv-loop hosts-μ-loop
+abbrev hosts-start : (t : ℕ) → hosts-lts.After-take (hosts-claims t) (hosts-at t) hosts.Post hosts-Inv-loop hosts-μ-loop
+    → hosts-lts.Start (hosts-claims t) (hosts-at t) hosts.Post hosts-Inv-loop hosts-μ-loop
 hosts-start t c = c .before .before .before .before .before .before .before .before .before
 
 -- `crowd` has the people of class v

@@ -1,5 +1,7 @@
 -- The job that the tables pose has the spare count of the sheet's. Assumes nothing.
 use mathlib.Core.Path.{_∙_}
+use native.Mathlib.Omega.{arith}
+use Rattle.sheet.proofs.Readable.{fewer-rules}
 use Rattle.resiliency.proofs.Sizes.{spare-other}
 use Rattle.tables.proofs.Posing.{posed-valid}
 use Rattle.tables.proofs.Same.{permits}
@@ -14,7 +16,7 @@ may-masks-requires : tie.Need-may-masks-requires
 may-masks-requires c κs = let r = c .before .before .pre .0 in (r .sized .permitted, r .people-most)
 
 pose-requires : tie.Need-pose-requires
-pose-requires c κs = start c .pre .0
+pose-requires c κs = fewer-rules (start c .pre .0) (omega arith)
 
 spare-count-requires : tie.Need-spare-count-requires
 spare-count-requires c κs = let p = c .before in (p .pose .ensures .ready, p .before .may-masks .ensures .size, start (p .before) .pre .1)

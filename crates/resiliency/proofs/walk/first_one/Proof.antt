@@ -1,5 +1,6 @@
 -- The invariant: everyone who is not in the rest may be away. Assumes nothing.
 use mathlib.Core.List.{[]}
+use native.Mathlib.Omega.{arith}
 use borrow.Author.Tests.{not-true, not-false}
 use Rattle.bits.proofs.Masks.{taken-part-less}
 use Rattle.levels.specs.Tabled.{tabledJob}
@@ -15,7 +16,7 @@ abbrev μ-walk : tie.MeasureT-walk
 μ-walk tables may weight₀ known₀ plans₀ first₀ rest₀ weight known plans first rest = rest
 
 below-requires : tie.Need-below-requires Inv-walk μ-walk
-below-requires c κs = c .before .pre .0 .tabled .given .few-people
+below-requires c κs = omega (arith, c .before .pre .0 .tabled .given .few-people)
 
 needed-requires : tie.Need-needed-requires Inv-walk μ-walk
 needed-requires c κs = c .before .before .pre .3 .masks

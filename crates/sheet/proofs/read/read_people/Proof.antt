@@ -5,7 +5,6 @@ use lib.ListN.{replicate}
 use Rattle.sheet.proofs.Stage.{stage-refused, stage-listed, stage-listing, stage-marking, nothing-marked}
 use Rattle.sheet.proofs.Order.{people-refused, people-listed}
 use denote.Ref.{now}
-use Rattle.card.specs.Layout.{personKind}
 use Rattle.sheet.specs.Cards.{Marking}
 use borrow.Author.Needs.{needs}
 use Rattle.sheet.proofs.read.read_people.Statement.{statement}

@@ -1,0 +1,224 @@
+-- The tests of a card say that it is in order. Assumes nothing.
+use mathlib.Core.Bool.{Bool, true, false, _&&_}
+use mathlib.Core.List.{List}
+use mathlib.Core.Logic.{_⊎_, inl, inr}
+use mathlib.Core.Path.{_≡_, refl, sym, subst}
+use Prim.Native.Nat.{ℕ, zero, suc, _/_, _%_, _^_, _<_, _≤_}
+use native.Mathlib.Omega.{arith}
+use native.Mathlib.Nat.{div-lt-iff-lt-mul, one-mul}
+use lib.Dec.{eqb, leb, ltb}
+use lib.ListN.{length}
+use lib.Pow.{pow-pos}
+use borrow.Author.Tests.{eqb-true, eqb-false, eq-eqb, ne-eqb, le-leb, leb-true, leb-false, ltb-true, ltb-false, not-true}
+use Rattle.bits.specs.Word.{hasBit}
+use Rattle.bits.proofs.Below.{by-cases, true-false, and-left, and-right}
+use Rattle.bits.proofs.Masks.{bits-below}
+use Rattle.bits.proofs.SetLaws.{has-below}
+use Rattle.card.specs.Layout.{cardByte, cardWord, cardLong, kindOf, nextOf, headerKind}
+use Rattle.card.specs.Fields.{headerOk, personOk, stepOk, ruleOk, tagOf, shopOf, benchOf, permittedOf, ruleKindOf, levelOf, limitOf, scopeOf, limitOk, scopeSize, nonzero, onlyBelow}
+use Rattle.card.proofs.Limits.{limit-cases}
+use Rattle.card.proofs.Zeros.{word-zero, zero-word, long-zero, zero-long}
+use Rattle.sheet.specs.Read.{lengthOk}
+use Rattle.sheet.specs.Faults.{cardsIn, stepsChain, EndsAfter, HeaderInOrder, PersonInOrder, StepInOrder, LimitInOrder, RuleInOrder}
+
+-- a set without bits from n on is below 2 ^ n
+pub below-power : (n x : ℕ) → onlyBelow n x ≡ true → x < 2 ^ n
+below-power n x h =
+    let z : x / 2 ^ n ≡ 0 = eqb-true _ _ h in
+    subst (λ (m : ℕ). x < m) (one-mul (2 ^ n)) (div-lt-iff-lt-mul (pow-pos n) .0 (omega arith))
+
+pub only-below : (n x : ℕ) → ((b : ℕ) → hasBit x b ≡ true → b < n) → onlyBelow n x ≡ true
+only-below n x h =
+    let l : x / 2 ^ n < 1 = div-lt-iff-lt-mul (pow-pos n) .1 (subst (λ (m : ℕ). x < m) (sym (one-mul (2 ^ n))) (bits-below n x h)) in
+    eq-eqb (x / 2 ^ n) 0 (omega arith)
+
+pub bit-below : (n x : ℕ) → onlyBelow n x ≡ true → (b : ℕ) → hasBit x b ≡ true → b < n
+bit-below n x h b t = has-below n x b (below-power n x h) t
+
+pub above-zero : (x : ℕ) → nonzero x ≡ true → 0 < x
+above-zero x h = let z : x ≡ 0 → ⊥ = eqb-false x 0 (not-true (eqb x 0) h) in omega arith
+
+-- the eight bytes from byte 8 on
+eight-zero : (s : List ℕ) (c : ℕ) → cardLong s c 8 ≡ 0 → cardLong s c 12 ≡ 0 → (b : ℕ) → 8 ≤ b → b < 16 → cardByte s c b ≡ 0
+eight-zero s c x y b l m =
+    by-cases (ltb b 12)
+    (λ t. long-zero s c 8 x b l (ltb-true b 12 t))
+    (λ t. long-zero s c 12 y b (ltb-false b 12 t) m)
+
+low-zero : (s : List ℕ) (c : ℕ) → ((b : ℕ) → 8 ≤ b → b < 16 → cardByte s c b ≡ 0) → cardLong s c 8 ≡ 0
+low-zero s c h = zero-long s c 8 (λ b l m. h b l (omega arith))
+
+high-zero : (s : List ℕ) (c : ℕ) → ((b : ℕ) → 8 ≤ b → b < 16 → cardByte s c b ≡ 0) → cardLong s c 12 ≡ 0
+high-zero s c h = zero-long s c 12 (λ b l m. h b (omega arith) m)
+
+not-zero : {x : ℕ} → 0 < x → x ≡ 0 → ⊥
+not-zero l e = omega arith
+
+-- tests that all pass
+and-four : (a b c d : Bool) → a && b && c && d ≡ true → (a ≡ true) × (b ≡ true) × (c ≡ true) × (d ≡ true)
+and-four a b c d h =
+    let x = and-left (a && b && c) d h in let y = and-left (a && b) c x in
+    (and-left a b y, and-right a b y, and-right (a && b) c x, and-right (a && b && c) d h)
+
+and-five : (a b c d e : Bool) → a && b && c && d && e ≡ true → (a ≡ true) × (b ≡ true) × (c ≡ true) × (d ≡ true) × (e ≡ true)
+and-five a b c d e h =
+    let w = and-four a b c d (and-left (a && b && c && d) e h) in (w .0, w .1, w .2, w .3, and-right (a && b && c && d) e h)
+
+and-six : (a b c d e f : Bool) → a && b && c && d && e && f ≡ true → (a ≡ true) × (b ≡ true) × (c ≡ true) × (d ≡ true) × (e ≡ true) × (f ≡ true)
+and-six a b c d e f h =
+    let w = and-five a b c d e (and-left (a && b && c && d && e) f h) in (w .0, w .1, w .2, w .3, w .4, and-right (a && b && c && d && e) f h)
+
+-- a length that is not wrong
+pub length-true : (n : ℕ) → (n ≡ 0 → ⊥) → n % 16 ≡ 0 → n ≤ 2256 → lengthOk n ≡ true
+length-true n a b c = rw (ne-eqb n 0 a, eq-eqb (n % 16) 0 b, le-leb n 2256 c) refl
+
+pub length-wrong : (n : ℕ) → lengthOk n ≡ false → (n ≡ 0) ⊎ ((n % 16 ≡ 0 → ⊥) ⊎ (2256 < n))
+length-wrong n h =
+    by-cases (eqb n 0) (λ t. inl (eqb-true n 0 t))
+    (λ t. by-cases (eqb (n % 16) 0)
+    (λ u. by-cases (leb n 2256)
+    (λ v. true-false (length-true n (eqb-false n 0 t) (eqb-true _ _ u) (leb-true n 2256 v)) h)
+    (λ v. inr (inr (leb-false n 2256 v))))
+    (λ u. inr (inl (eqb-false _ _ u))))
+
+module _ (s : List ℕ) where
+  pub header-true : HeaderInOrder s → headerOk s (cardsIn s) ≡ true
+  unfolding headerOk
+  header-true h =
+      rw (eq-eqb _ _ (h .kind), eq-eqb _ _ (h .one), eq-eqb _ _ (h .next), eq-eqb _ _ (h .cards), eq-eqb _ _ (zero-long s 0 12 (h .unnamed))) refl
+
+  pub header-in-order : headerOk s (cardsIn s) ≡ true → HeaderInOrder s
+  unfolding headerOk
+  header-in-order h =
+      let t = and-five (eqb (kindOf s 0) headerKind) (eqb (cardByte s 0 1) 1) (eqb (nextOf s 0) 0) (eqb (cardWord s 0 10) (cardsIn s)) (eqb (cardLong s 0 12) 0) h in
+      record {
+        kind = eqb-true _ _ (t .0);
+        one = eqb-true _ _ (t .1);
+        next = eqb-true _ _ (t .2);
+        cards = eqb-true _ _ (t .3);
+        unnamed = long-zero s 0 12 (eqb-true _ _ (t .4));
+      }
+
+-- what the tests of a person card say
+abbrev pub PersonTested : List ℕ → ℕ → Type 0
+PersonTested s c =
+    (cardByte s c 1 ≡ 0) × (0 < tagOf s c) × (0 < shopOf s c) × (0 < benchOf s c) × (onlyBelow 12 (permittedOf s c) ≡ true) × (cardWord s c 14 ≡ 0)
+
+-- of a step card
+abbrev pub StepTested : List ℕ → ℕ → Type 0
+StepTested s c = (cardByte s c 1 ≡ 0) × (0 < tagOf s c) × (cardLong s c 8 ≡ 0) × (cardLong s c 12 ≡ 0)
+
+-- of a rule card
+abbrev pub RuleTested : List ℕ → ℕ → ℕ → Type 0
+RuleTested s steps c =
+    (limitOk (ruleKindOf s c) (limitOf s c) (scopeSize (scopeOf s c)) ≡ true)
+    × (1 ≤ levelOf s c)
+    × (levelOf s c ≤ 3)
+    × (onlyBelow steps (scopeOf s c) ≡ true)
+    × (cardLong s c 8 ≡ 0)
+    × (cardLong s c 12 ≡ 0)
+
+-- a limit that passes is in order, and the other way round
+limit-in-order : (kind limit size : ℕ) → limitOk kind limit size ≡ true → LimitInOrder kind limit size
+limit-in-order zero limit size h = limit-cases 0 limit size h (λ a b c d. omega arith) (λ a b c d e. omega arith)
+limit-in-order (suc zero) limit size h = limit-cases 1 limit size h (λ a b c d. (c, d)) (λ a b c d e. absurd (omega arith))
+limit-in-order (suc (suc zero)) limit size h = limit-cases 2 limit size h (λ a b c d. (c, d)) (λ a b c d e. absurd (omega arith))
+limit-in-order (suc (suc (suc zero))) limit size h = limit-cases 3 limit size h (λ a b c d. absurd (omega arith)) (λ a b c d e. (c, d, e))
+limit-in-order (suc (suc (suc (suc zero)))) limit size h = limit-cases 4 limit size h (λ a b c d. absurd (omega arith)) (λ a b c d e. (c, d, e))
+limit-in-order (suc (suc (suc (suc (suc n))))) limit size h =
+    limit-cases (suc (suc (suc (suc (suc n))))) limit size h (λ a b c d. omega arith) (λ a b c d e. omega arith)
+
+limit-true : (kind limit size : ℕ) → LimitInOrder kind limit size → limitOk kind limit size ≡ true
+unfolding limitOk
+limit-true zero limit size h = absurd h
+limit-true (suc zero) limit size h = rw (eq-eqb size 2 (h .0), eq-eqb limit 0 (h .1)) refl
+limit-true (suc (suc zero)) limit size h = rw (eq-eqb size 2 (h .0), eq-eqb limit 0 (h .1)) refl
+limit-true (suc (suc (suc zero))) limit size h = rw (le-leb 2 size (h .0), le-leb 1 limit (h .1), le-leb limit size (h .2)) refl
+limit-true (suc (suc (suc (suc zero)))) limit size h = rw (le-leb 2 size (h .0), le-leb 1 limit (h .1), le-leb limit size (h .2)) refl
+limit-true (suc (suc (suc (suc (suc n))))) limit size h = absurd h
+
+module _ (s : List ℕ) (c : ℕ) where
+  pub person-fields : personOk s c ≡ true → PersonTested s c
+  unfolding personOk
+  person-fields h =
+      let t = and-six (eqb (cardByte s c 1) 0) (nonzero (tagOf s c)) (nonzero (shopOf s c)) (nonzero (benchOf s c)) (onlyBelow 12 (permittedOf s c)) (eqb (cardWord s c 14) 0) h in
+      (eqb-true _ _ (t .0), above-zero _ (t .1), above-zero _ (t .2), above-zero _ (t .3), t .4, eqb-true _ _ (t .5))
+
+  pub step-fields : stepOk s c ≡ true → StepTested s c
+  unfolding stepOk
+  step-fields h =
+      let t = and-four (eqb (cardByte s c 1) 0) (nonzero (tagOf s c)) (eqb (cardLong s c 8) 0) (eqb (cardLong s c 12) 0) h in
+      (eqb-true _ _ (t .0), above-zero _ (t .1), eqb-true _ _ (t .2), eqb-true _ _ (t .3))
+
+  pub rule-fields : (steps : ℕ) → ruleOk s steps c ≡ true → RuleTested s steps c
+  unfolding ruleOk
+  rule-fields steps h =
+      let t = and-five (limitOk (ruleKindOf s c) (limitOf s c) (scopeSize (scopeOf s c))) (leb 1 (levelOf s c) && leb (levelOf s c) 3)
+      (onlyBelow steps (scopeOf s c)) (eqb (cardLong s c 8) 0) (eqb (cardLong s c 12) 0) h in
+      let from = and-left (leb 1 (levelOf s c)) (leb (levelOf s c) 3) (t .1) in
+      let to = and-right (leb 1 (levelOf s c)) (leb (levelOf s c) 3) (t .1) in
+      (t .0, leb-true 1 _ from, leb-true _ 3 to, t .2, eqb-true _ _ (t .3), eqb-true _ _ (t .4))
+
+  pub person-in-order : personOk s c ≡ true → ((n : ℕ) → EndsAfter s stepsChain n → onlyBelow n (permittedOf s c) ≡ true) → PersonInOrder s c
+  person-in-order h late =
+      let t = person-fields h in
+      record {
+        tag = t .1;
+        shop = t .2;
+        bench = t .3;
+        permitted = bit-below 12 (permittedOf s c) (t .4);
+        steps = λ n e l. bit-below n (permittedOf s c) (late n e);
+        second = t .0;
+        unnamed = word-zero s c 14 (t .5);
+      }
+
+  pub person-true : PersonInOrder s c → personOk s c ≡ true
+  unfolding personOk
+  person-true h =
+      rw (
+        eq-eqb (cardByte s c 1) 0 (h .second),
+        ne-eqb (tagOf s c) 0 (not-zero (h .tag)),
+        ne-eqb (shopOf s c) 0 (not-zero (h .shop)),
+        ne-eqb (benchOf s c) 0 (not-zero (h .bench)),
+        only-below 12 (permittedOf s c) (h .permitted),
+        eq-eqb (cardWord s c 14) 0 (zero-word s c 14 (h .unnamed)),
+      )
+      refl
+
+  pub step-in-order : stepOk s c ≡ true → StepInOrder s c
+  step-in-order h = let t = step-fields h in record { tag = t .1; second = t .0; unnamed = eight-zero s c (t .2) (t .3) }
+
+  pub step-true : StepInOrder s c → stepOk s c ≡ true
+  unfolding stepOk
+  step-true h =
+      rw (
+        eq-eqb (cardByte s c 1) 0 (h .second),
+        ne-eqb (tagOf s c) 0 (not-zero (h .tag)),
+        eq-eqb (cardLong s c 8) 0 (low-zero s c (h .unnamed)),
+        eq-eqb (cardLong s c 12) 0 (high-zero s c (h .unnamed)),
+      )
+      refl
+
+  pub rule-in-order : (steps : ℕ) → ruleOk s steps c ≡ true → ((n : ℕ) → EndsAfter s stepsChain n → n ≡ steps) → RuleInOrder s c
+  rule-in-order steps h only =
+      let t = rule-fields steps h in
+      record {
+        limit = limit-in-order (ruleKindOf s c) (limitOf s c) (scopeSize (scopeOf s c)) (t .0);
+        level-from = t .1;
+        level-to = t .2;
+        scope = λ n e b w. subst (λ (x : ℕ). b < x) (sym (only n e)) (bit-below steps (scopeOf s c) (t .3) b w);
+        unnamed = eight-zero s c (t .4) (t .5);
+      }
+
+  pub rule-true : (steps : ℕ) → EndsAfter s stepsChain steps → RuleInOrder s c → ruleOk s steps c ≡ true
+  unfolding ruleOk
+  rule-true steps e h =
+      rw (
+        limit-true (ruleKindOf s c) (limitOf s c) (scopeSize (scopeOf s c)) (h .limit),
+        le-leb 1 (levelOf s c) (h .level-from),
+        le-leb (levelOf s c) 3 (h .level-to),
+        only-below steps (scopeOf s c) (h .scope steps e),
+        eq-eqb (cardLong s c 8) 0 (low-zero s c (h .unnamed)),
+        eq-eqb (cardLong s c 12) 0 (high-zero s c (h .unnamed)),
+      )
+      refl
