@@ -7,7 +7,7 @@ use native.Mathlib.Omega.{arith}
 use lib.Dec.{eqb, leb, eqb·suc-zero}
 use lib.ListN.{length, getD}
 use lib.Seq.{getD-append-seam}
-use borrow.Author.Tests.{eqb-true, eqb-false, leb-true, leb-false, not-true}
+use borrow.Author.Tests.{eqb-true, eqb-false, leb-true, leb-false, not-true, not-false}
 use Rattle.bits.specs.Member.{member}
 use Rattle.bits.proofs.Below.{by-cases, true-false}
 use Rattle.card.specs.Refusals.{reachedFault, kindFault, fieldFault, countFault}
@@ -19,16 +19,16 @@ use Rattle.chain.proofs.Chained.{clean, length-snoc, upto-none, upto-mo
 -- which fault a card has
 fault-cases : {P : Type 0} (a b full other bad : Bool) → (firstFault (a || b) full other bad ≡ 0 → ⊥)
     → ((a || b) ≡ true → firstFault (a || b) full other bad ≡ reachedFault → P)
-    → (b ≡ false → full ≡ true → firstFault (a || b) full other bad ≡ countFault → P)
+    → (a ≡ false → b ≡ false → full ≡ true → firstFault (a || b) full other bad ≡ countFault → P)
     → (other ≡ true → firstFault (a || b) full other bad ≡ kindFault → P)
-    → (bad ≡ true → firstFault (a || b) full other bad ≡ fieldFault → P)
+    → (other ≡ false → bad ≡ true → firstFault (a || b) full other bad ≡ fieldFault → P)
     → P
 unfolding firstFault
 fault-cases true b full other bad n w x y z = w refl refl
 fault-cases false true full other bad n w x y z = w refl refl
-fault-cases false false true other bad n w x y z = x refl refl refl
+fault-cases false false true other bad n w x y z = x refl refl refl refl
 fault-cases false false false true bad n w x y z = y refl refl
-fault-cases false false false false true n w x y z = z refl refl
+fault-cases false false false false true n w x y z = z refl refl refl
 fault-cases false false false false false n w x y z = absurd (n refl)
 
 -- the card taken last holds the index that comes next
@@ -55,9 +55,9 @@ module _ (k : Chain) (most first : ℕ) where
         let x : f ≡ faultAt k full acc i = cc in let y : c ≡ i = cc in
         fault-cases (k .before i) (member acc i) full (not (k .mine i)) (not (k .fields i)) q
         (λ t d. stopped (at-reached (x ∙ d) y l t) n)
-        (λ t s d. stopped (at-count (x ∙ d) y l (last s) t) n)
+        (λ r t s d. stopped (at-count (x ∙ d) y l (last s) r t) n)
         (λ t d. stopped (at-kind (x ∙ d) y l (not-true (k .mine i) t)) n)
-        (λ t d. stopped (at-fields (x ∙ d) y l (not-true (k .fields i) t)) n)
+        (λ s t d. stopped (at-fields (x ∙ d) y l (not-false (k .mine i) s) (not-true (k .fields i) t)) n)
 
     never : {P : Type 0} → i ≡ 0 → P
     never z =

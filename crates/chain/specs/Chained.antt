@@ -43,9 +43,9 @@ holderIn acc = getD (0 ∷ acc) (length acc) 0
 pub data StopsAt (k : Chain) (most : ℕ) (acc : List ℕ) (i f c : ℕ) : Type 0 where
   at-index : f ≡ indexFault → c ≡ holderIn acc → k .cards ≤ i → StopsAt k most acc i f c
   at-reached : f ≡ reachedFault → c ≡ i → i < k .cards → (k .before i || member acc i) ≡ true → StopsAt k most acc i f c
-  at-count : f ≡ countFault → c ≡ i → i < k .cards → length acc ≡ most → member acc i ≡ false → StopsAt k most acc i f c
+  at-count : f ≡ countFault → c ≡ i → i < k .cards → length acc ≡ most → k .before i ≡ false → member acc i ≡ false → StopsAt k most acc i f c
   at-kind : f ≡ kindFault → c ≡ i → i < k .cards → k .mine i ≡ false → StopsAt k most acc i f c
-  at-fields : f ≡ fieldFault → c ≡ i → i < k .cards → k .fields i ≡ false → StopsAt k most acc i f c
+  at-fields : f ≡ fieldFault → c ≡ i → i < k .cards → k .mine i ≡ true → k .fields i ≡ false → StopsAt k most acc i f c
 
 -- a walk from index first on, for at most most cards, stops with refusal f and card c
 pub record Stopped (k : Chain) (most first f c : ℕ) : Type 0 where

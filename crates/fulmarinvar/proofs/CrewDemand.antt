@@ -10,10 +10,9 @@ use borrow.Author.Tests.{ltb-true, ltb-false}
 use Rattle.bits.proofs.Below.{by-cases}
 use Rattle.card.specs.Refusals.{shortFault}
 use Rattle.sheet.specs.Answer.{jobOf}
-use Rattle.sheet.specs.Faults as faults
 use Rattle.sheet.specs.Read.{Read, job, fault, readSheet}
 use Rattle.workflow.specs.Problem.{Job, May, Satisfiable}
-use Rattle.workflow.specs.First.{Found, found, nothing, listOf, planOf, firstPlan}
+use Rattle.workflow.specs.First.{Found, found, listOf, planOf, firstPlan}
 use Rattle.workflow.proofs.First.{found-cases, firstPlan-found, firstPlan-nothing, first-plan-given, satisfiable-or-not}
 use Rattle.instance.specs.Instance.{crewTags}
 use Rattle.answer.specs.Bytes.{Outcome, refused, written}

@@ -7,11 +7,8 @@ use native.Mathlib.Omega.{arith}
 use Rattle.sheet.specs.Faults as faults
 use Rattle.sheet.specs.Faults.{Fault}
 use Rattle.sheet.specs.Read.{fault, readSheet}
-use Rattle.sheet.proofs.Refusals.{refusal-is-fault, refusal-inside, fault-range}
-use Rattle.workflow.specs.First.{nothing}
-use Rattle.answer.specs.Bytes.{refused}
+use Rattle.sheet.proofs.Refusals.{refusal-is-fault, refusal-inside, fault-range, sheet-refusal}
 use Rattle.answer.specs.Number.{refusalNumber}
-use Rattle.fulmarinvar.specs.Demands as demands
 use Rattle.fulmarinvar.specs.Demands.{NumberedRefusal, ReadToAnEnd}
 
 -- a refusal of a call itself, at card 0
@@ -23,6 +20,7 @@ own-refusal s r w =
       is = refl;
       from = ⊎-elim (λ x. x .0) (λ x. omega arith) w;
       to = ⊎-elim (λ x. omega (arith, x .1)) (λ x. omega arith) w;
+      small = omega arith;
       header = λ x. refl;
       inside = λ a b. ⊎-elim (λ x. absurd (omega (arith, x .1))) (λ x. absurd (omega arith)) w;
       justified = λ a b. ⊎-elim (λ x. absurd (omega (arith, x .1))) (λ x. absurd (omega arith)) w;
@@ -53,6 +51,7 @@ reader-refusal s f c e =
       is = refl;
       from = omega (arith, r .0);
       to = omega (arith, r .1);
+      small = omega (arith, sheet-refusal s f c e .card);
       header = ⊎-elim (zero-card s f c w) (λ x. absurd (omega (arith, r .1)));
       inside = λ a b. refusal-inside s f c e (λ x. omega arith);
       justified = λ a b. w;

@@ -6,7 +6,6 @@ use lib.ListN.{length}
 use Rattle.bits.specs.Word.{hasBit}
 use Rattle.card.specs.Fields.{tagOf, shopOf, benchOf, permittedOf, ruleKindOf, levelOf, limitOf, scopeOf}
 use Rattle.sheet.specs.Answer.{jobOf}
-use Rattle.sheet.specs.Faults as faults
 use Rattle.sheet.specs.Faults.{cardsIn}
 use Rattle.sheet.specs.Read.{job}
 use Rattle.sheet.proofs.Fill.{getD-table}
@@ -14,7 +13,6 @@ use Rattle.sheet.proofs.NoFault.{readable-no-fault, no-fault-readable}
 use Rattle.sheet.proofs.Chains.{chains}
 use Rattle.sheet.proofs.Passes.{sheet-passes}
 use Rattle.sheet.proofs.Readable.{readable-job}
-use Rattle.workflow.specs.First.{nothing}
 use Rattle.instance.proofs.Laws.{instance-nested, instance-fits}
 use Rattle.fulmarinvar.specs.Demands as demands
 

@@ -7,14 +7,11 @@ use native.Mathlib.Omega.{arith}
 use lib.Dec.{ltb}
 use lib.ListN.{length, getD}
 use borrow.Author.Tests.{ltb-true, ltb-false}
-use Rattle.bits.specs.Below.{count}
 use Rattle.bits.specs.Word.{byteAt}
 use Rattle.bits.proofs.Below.{by-cases}
 use Rattle.sheet.specs.Answer.{jobOf}
-use Rattle.sheet.specs.Faults as faults
 use Rattle.sheet.specs.Read.{Read, job, fault, readSheet}
 use Rattle.workflow.specs.Problem.{Job, May, Satisfiable}
-use Rattle.workflow.specs.First.{nothing}
 use Rattle.workflow.proofs.First.{satisfiable-or-not}
 use Rattle.answer.specs.Bytes.{Outcome}
 use Rattle.resiliency.specs.Count.{Spare, unsatisfiable, capped, broken, spare, IsSpare}

@@ -1,5 +1,5 @@
 -- The owner's three demands, about the number that a call returns and the bytes that it leaves. proofs/CrewDemand.antt, SpareDemand.antt and
--- SheetDemand.antt prove them from the calls' promises (Promise.antt). Assumes nothing.
+-- SheetDemand.antt prove them from the calls' promises (Promise.antt), ReadBack.antt what the host reads. Assumes nothing.
 use mathlib.Core.List.{List, [], _∷_, _++_}
 use mathlib.Core.Logic.{_↔_, _⊎_}
 use mathlib.Core.Path.{_≡_}
@@ -32,6 +32,8 @@ pub record NumberedRefusal (s : List ℕ) (number : ℕ) : Type 0 where
   pub is : number ≡ refusal * 256 + card
   pub from : 1 ≤ refusal
   pub to : refusal ≤ 13
+  -- so the number says which refusal and which card
+  pub small : card < 256
   -- "Card 0." of 1, 2, 3, 4 and 13
   pub header : (refusal ≤ 4) ⊎ (refusal ≡ 13) → card ≡ 0
   pub inside : 5 ≤ refusal → refusal ≤ 12 → card < cardsIn s

@@ -26,7 +26,7 @@ rule next kind level limit scope = 4 ∷ kind ∷ word next ++ level ∷ limit �
 
 -- "Sheet W: people (tag, shop, bench, permitted) 101,1,1,7; 102,1,1,7; 103,1,2,4; 104,2,3,4. Steps 10, 20, 30. Rules (kind, level, limit,
 -- scope) 1,2,0,3; 1,1,0,6; 2,3,0,6. Cards lie in that order, 11 in all." Here what 103 is permitted is open, and so are the cards from the
--- last rule on.
+-- second rule on.
 abbrev pub likeW : ℕ → ℕ → List ℕ → List ℕ
 likeW cards permitted rest =
     header 1 5 8 cards

@@ -40,12 +40,12 @@ fn write_count(tag: &[u32; 64], cap: u32, count: Spared, out: &mut [u8]) -> u32
     ensures { λ r. ⌜ Left (spareBytes (now (tag .entry)) cap (now (out .entry)) (told count)) r (now (out .exit)) ⌝ }
 {
     match count {
-        Spared::Unsatisfiable => {
-            return returned(PLAN_FAULT, 0);
-        }
         Spared::Capped => {
             put_four(out, cap, 0, 0, 0);
             return 0;
+        }
+        Spared::Unsatisfiable => {
+            return returned(PLAN_FAULT, 0);
         }
         Spared::One(a) => {
             put_four(out, 0, tag[a], 0, 0);

@@ -8,15 +8,15 @@ use native.Mathlib.Numerals.{add-one}
 use lib.Dec.{ltb}
 use lib.ListN.{length, getD, List·getD-append}
 use lib.Seq.{getD-append-seam}
-use borrow.Author.Tests.{ltb-true, ltb-false}
+use borrow.Author.Tests.{eqb-true, ltb-true, ltb-false}
 use Rattle.bits.specs.Member.{member}
 use Rattle.bits.proofs.Below.{by-cases, below-suc}
-use Rattle.bits.proofs.Member.{member-place}
-use Rattle.card.specs.Layout.{nextOf}
+use Rattle.bits.proofs.Member.{member-place, member-has}
+use Rattle.card.specs.Layout.{kindOf, nextOf}
 use Rattle.chain.specs.Answer.{chainOf}
 use Rattle.chain.specs.Chained.{Chained, Upto, holderIn}
 use Rattle.chain.proofs.Chained.{chained-upto}
-use Rattle.sheet.specs.Faults.{ChainName, cardsIn, firstIndex, indexAt, holderAt, LeadsUpTo, ComesTo, EndsAfter}
+use Rattle.sheet.specs.Faults.{ChainName, cardsIn, firstIndex, kindAlong, indexAt, holderAt, LeadsUpTo, ComesTo, EndsAfter}
 
 module _ (s : List ℕ) (k : ChainName) (kind steps : ℕ) (before : ℕ → Bool) (acc : List ℕ) (i : ℕ)
     (u : Upto (chainOf s (cardsIn s) kind steps before) (firstIndex s k) acc i) where
@@ -58,15 +58,18 @@ pub record Traced (s : List ℕ) (k : ChainName) (l : List ℕ) : Type 0 where
   pub each : (j : ℕ) → j < length l → ComesTo s k j (getD l j 0)
   pub ends : EndsAfter s k (length l)
   pub apart : (i j : ℕ) → i < j → j < length l → getD l i 0 ≡ getD l j 0 → ⊥
+  pub kinds : (j : ℕ) → j < length l → kindOf s (getD l j 0) ≡ kindAlong k
 
-pub traced : (s : List ℕ) (k : ChainName) (kind steps most : ℕ) (before : ℕ → Bool) (l : List ℕ)
-    → Chained (chainOf s (cardsIn s) kind steps before) most (firstIndex s k) l → Traced s k l
-traced s k kind steps most before l c =
+pub traced : (s : List ℕ) (k : ChainName) (steps most : ℕ) (before : ℕ → Bool) (l : List ℕ)
+    → Chained (chainOf s (cardsIn s) (kindAlong k) steps before) most (firstIndex s k) l → Traced s k l
+traced s k steps most before l c =
+    let kind = kindAlong k in
     let u = chained-upto (chainOf s (cardsIn s) kind steps before) (firstIndex s k) most l c in
     record {
       each = upto-comes s k kind steps before l 0 u;
       ends = record { leads = upto-leads s k kind steps before l 0 u; ends = index-next s k kind steps before l 0 u };
       apart = c .apart;
+      kinds = λ j h. eqb-true _ _ (c .mine j h);
     }
 
 module _ {s : List ℕ} {k : ChainName} {l : List ℕ} (t : Traced s k l) where
@@ -94,3 +97,6 @@ module _ {s : List ℕ} {k : ChainName} {l : List ℕ} (t : Traced s k l) where
 
   pub member-comes : (c : ℕ) → member l c ≡ true → (j : ℕ) × ComesTo s k j c
   member-comes c m = let w = member-place l c m in (w .0, subst (ComesTo s k (w .0)) (w .2) (t .each (w .0) (w .1)))
+
+  pub comes-member : (j c : ℕ) → ComesTo s k j c → member l c ≡ true
+  comes-member j c h = member-has l j c (comes-before-end j c h) (comes-card j c h)

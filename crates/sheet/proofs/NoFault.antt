@@ -13,7 +13,7 @@ use Rattle.bits.proofs.Below.{by-cases, true-false, and-left, and-right}
 use Rattle.bits.proofs.Counting.{is-false}
 use Rattle.bits.proofs.Masks.{or-cases, or-left, or-right}
 use Rattle.bits.proofs.Member.{member-has, member-append}
-use Rattle.card.specs.Layout.{kindOf, personKind, stepKind, ruleKind}
+use Rattle.card.specs.Layout.{kindOf}
 use Rattle.card.specs.Fields.{headerOk, nonzero, permittedOf, onlyBelow}
 use Rattle.sheet.specs.Read.{Read, job, fault, lengthOk, readSheet, onTwo, firstClash, sameTag}
 use Rattle.sheet.specs.Faults as faults
@@ -22,7 +22,7 @@ use Rattle.sheet.specs.Faults.{ComesTo, InOrder, IndexBefore, Clashes, S
 use Rattle.sheet.specs.Readable.{Chains}
 use Rattle.sheet.proofs.Chains.{chains}
 use Rattle.sheet.proofs.InOrder.{header-in-order, person-in-order, step-in-order, rule-in-order}
-use Rattle.sheet.proofs.Indices.{Traced, traced, comes-before-end, comes-card, leads-before-end, ends-once, member-comes}
+use Rattle.sheet.proofs.Indices.{Traced, traced, comes-before-end, comes-card, comes-member, leads-before-end, ends-once, member-comes}
 use Rattle.sheet.proofs.Order.{length-facts}
 use Rattle.sheet.proofs.Passes.{Passes, sheet-passes}
 use Rattle.sheet.proofs.Readable.{person-card, step-card, rule-card, not-late, no-clash, later-shop}
@@ -58,9 +58,9 @@ module _ (s people steps rules : List ℕ) (some : 0 < cardsIn s) (p : Passes s 
   cardsOf = cardsAlong people steps rules
 
   trace : (k : ChainName) → Traced s k (cardsOf k)
-  trace peopleChain = traced s peopleChain personKind 0 64 (λ c. false) people (read .people-chain)
-  trace stepsChain = traced s stepsChain stepKind 0 12 (member people) steps (read .steps-chain)
-  trace rulesChain = traced s rulesChain ruleKind (length steps) 64 (onTwo people steps) rules (read .rules-chain)
+  trace peopleChain = traced s peopleChain 0 64 (λ c. false) people (read .people-chain)
+  trace stepsChain = traced s stepsChain 0 12 (member people) steps (read .steps-chain)
+  trace rulesChain = traced s rulesChain (length steps) 64 (onTwo people steps) rules (read .rules-chain)
 
   few : (k : ChainName) → length (cardsOf k) ≤ mostAlong k
   few peopleChain = read .people-chain .short
@@ -70,11 +70,6 @@ module _ (s people steps rules : List ℕ) (some : 0 < cardsIn s) (p : Passes s 
   -- what is there at an index of a chain
   at : (k : ChainName) (P : ℕ → Type 0) → ((j : ℕ) → j < length (cardsOf k) → P (getD (cardsOf k) j 0)) → (j c : ℕ) → ComesTo s k j c → P c
   at k P h j c w = subst P (comes-card (trace k) j c w) (h j (comes-before-end (trace k) j c w))
-
-  is-kind : (k : ChainName) (j : ℕ) → j < length (cardsOf k) → kindOf s (getD (cardsOf k) j 0) ≡ kindAlong k
-  is-kind peopleChain j l = eqb-true _ _ (read .people-chain .mine j l)
-  is-kind stepsChain j l = eqb-true _ _ (read .steps-chain .mine j l)
-  is-kind rulesChain j l = eqb-true _ _ (read .rules-chain .mine j l)
 
   in-order : (k : ChainName) (j : ℕ) → j < length (cardsOf k) → InOrder s k (getD (cardsOf k) j 0)
   in-order peopleChain j l =
@@ -93,9 +88,6 @@ module _ (s people steps rules : List ℕ) (some : 0 < cardsIn s) (p : Passes s 
       let l : length (cardsOf k) ≤ j = ltb-false j (length (cardsOf k)) f in
       let e : j ≡ length (cardsOf k) = omega arith in
       let z : indexAt s k j ≡ 0 = ap (indexAt s k) e ∙ t .ends .ends in omega arith)
-
-  on-chain : (k : ChainName) (j c : ℕ) → ComesTo s k j c → member (cardsOf k) c ≡ true
-  on-chain k j c w = member-has (cardsOf k) j c (comes-before-end (trace k) j c w) (comes-card (trace k) j c w)
 
   -- a card is on one chain alone
   apart-chains : (k l : ChainName) → rank k < rank l → (j c : ℕ) → ComesTo s l j c → member (cardsOf k) c ≡ false
@@ -124,7 +116,7 @@ module _ (s people steps rules : List ℕ) (some : 0 < cardsIn s) (p : Passes s 
   same-tags-not l h i j m n = eqb-false _ _ (no-clash (length l) (sameTag s l) h i j m n)
 
   no-reached-before : (k l : ChainName) (i j c : ℕ) → ComesTo s k i c → ComesTo s l j c → IndexBefore k i l j → ⊥
-  no-reached-before k l i j c a b (inl h) = true-false (on-chain k i c a) (apart-chains k l h j c b)
+  no-reached-before k l i j c a b (inl h) = true-false (comes-member (trace k) i c a) (apart-chains k l h j c b)
   no-reached-before k l i j c a b (inr w) =
       let a′ : ComesTo s l i c = subst (λ (x : ChainName). ComesTo s x i c) (w .0) a in
       let t = trace l in
@@ -151,9 +143,9 @@ module _ (s people steps rules : List ℕ) (some : 0 < cardsIn s) (p : Passes s 
   no-fault a b f c (faults.wrong-header e w) = w .wrong (header-in-order s b)
   no-fault a b f c (faults.index-too-high e w) = no-index-too-high (w .chain) (w .number) (w .leads) (w .high)
   no-fault a b f c (faults.reached-before e w) =
-      no-reached-before (w .earlier-chain) (w .chain) (w .earlier-number) (w .number) c (w .came) (w .comes) (w .earlier)
+      let r = w .reached in no-reached-before (r .chain) (w .chain) (r .number) (w .number) c (r .came) (w .comes) (r .earlier)
   no-fault a b f c (faults.other-kind e w) =
-      w .other (at (w .chain) (λ (x : ℕ). kindOf s x ≡ kindAlong (w .chain)) (is-kind (w .chain)) (w .number) c (w .comes))
+      w .other (at (w .chain) (λ (x : ℕ). kindOf s x ≡ kindAlong (w .chain)) (trace (w .chain) .kinds) (w .number) c (w .comes))
   no-fault a b f c (faults.wrong-field e w) = w .wrong (at (w .chain) (InOrder s (w .chain)) (in-order (w .chain)) (w .number) c (w .comes))
   no-fault a b f c (faults.none-along e w) = ⊎-elim (first-some peopleChain (p .people-some)) (first-some stepsChain (p .steps-some)) (w .none)
   no-fault a b f c (faults.too-many e w) =

@@ -14,10 +14,10 @@ use Rattle.bits.specs.Member.{member}
 use Rattle.bits.proofs.Below.{by-cases, true-false, below-suc, and-left, and-right, first-has, first-none}
 use Rattle.bits.proofs.Counting.{any-at, any-none}
 use Rattle.bits.proofs.Masks.{or-cases, or-left, or-right}
-use Rattle.bits.proofs.Member.{member-place, member-has, member-not}
+use Rattle.bits.proofs.Member.{member-place, member-not}
 use Rattle.card.specs.Layout.{kindOf, personKind, stepKind, ruleKind}
 use Rattle.card.specs.Fields.{headerOk, fieldsOk, benchOf, permittedOf, onlyBelow}
-use Rattle.card.specs.Refusals.{lengthFault, headerFault, fieldFault, countFault, tagFault, benchFault, looseFault}
+use Rattle.card.specs.Refusals.{lengthFault, headerFault, reachedFault, fieldFault, countFault, tagFault, benchFault, looseFault}
 use Rattle.card.proofs.ByKind.{fields-person, fields-step, fields-rule}
 use Rattle.chain.specs.Walk.{Walked, listed, refused, walk}
 use Rattle.chain.specs.Answer.{chainOf}
@@ -29,12 +29,12 @@ use Rattle.sheet.specs.Read.{firstClash, firstLate, firstLoose, sameTag,
 use Rattle.sheet.specs.Answer.{answer, sheetOf}
 use Rattle.sheet.specs.Faults as faults
 use Rattle.sheet.specs.Faults.{ChainName, peopleChain, stepsChain, rulesChain, rank, firstIndex, kindAlong, mostAlong, indexAt, cardsIn}
-use Rattle.sheet.specs.Faults.{ComesTo, InOrder, FirstClashing, SameTags, SameBenchOtherShop, OnNoChain, Fault}
+use Rattle.sheet.specs.Faults.{ComesTo, InOrder, IndexBefore, Reached, FirstClashing, SameTags, SameBenchOtherShop, OnNoChain, Fault}
 use Rattle.sheet.specs.Readable.{ReadRefusal}
 use Rattle.sheet.specs.declared.Reading.the-variants.{Refused}
 use Rattle.sheet.proofs.InOrder.{only-below, length-wrong, header-true, person-true, step-true, rule-true}
 use Rattle.sheet.proofs.Indices.{index-card, upto-leads, upto-comes, upto-holder, index-next, next-comes}
-use Rattle.sheet.proofs.Indices.{Traced, traced, comes-before-end, comes-card, member-comes}
+use Rattle.sheet.proofs.Indices.{Traced, traced, comes-card, comes-member, member-comes}
 use Rattle.sheet.proofs.Order.{length-facts}
 
 -- a refusal of a test, or of what follows it
@@ -50,78 +50,100 @@ along-fault (refused f c) next g d e stop on = stop (ap₂ refused (cc) (cc))
 
 -- ---- a chain
 
--- what the cards before are, and which cards pass the tests
+-- which cards the chains before have reached, and which cards pass the tests
 module _ (s : List ℕ) (k : ChainName) (steps : ℕ) (before : ℕ → Bool)
     (came : (c : ℕ) → before c ≡ true → (l : ChainName) × (j : ℕ) × (rank l < rank k) × ComesTo s l j c)
+    (missed : (c : ℕ) → before c ≡ false → (l : ChainName) (j : ℕ) → rank l < rank k → ComesTo s l j c → ⊥)
     (passes : (c : ℕ) → InOrder s k c → fieldsOk s steps (kindAlong k) c ≡ true) where
-  stop-fault : (taken : List ℕ) (i f c : ℕ) → 0 < i → Upto (chainOf s (cardsIn s) (kindAlong k) steps before) (firstIndex s k) taken i
-      → StopsAt (chainOf s (cardsIn s) (kindAlong k) steps before) (mostAlong k) taken i f c → Fault s f c
-  stop-fault taken i f c z u (at-index e d l) =
-      let n = index-next s k (kindAlong k) steps before taken i u in
-      faults.index-too-high e
-      (record {
-        chain = k;
-        number = length taken;
-        leads = upto-leads s k (kindAlong k) steps before taken i u;
-        high = omega arith;
-        card = d ∙ upto-holder s k (kindAlong k) steps before taken i u;
-      })
-  stop-fault taken i f c z u (at-reached e d l t) =
-      let here : ComesTo s k (length taken) c = subst (ComesTo s k (length taken)) (sym d) (next-comes s k (kindAlong k) steps before taken i u z l) in
-      or-cases (before i) (member taken i) t
-      (λ b. let w = came i b in
-      faults.reached-before e
-      (record {
-        chain = k;
-        number = length taken;
-        comes = here;
-        earlier-chain = w .0;
-        earlier-number = w .1;
-        came = subst (ComesTo s (w .0) (w .1)) (sym d) (w .3);
-        earlier = inl (w .2);
-      }))
-      (λ b. let w = member-place taken i b in
-      faults.reached-before e
-      (record {
-        chain = k;
-        number = length taken;
-        comes = here;
-        earlier-chain = k;
-        earlier-number = w .0;
-        came = subst (ComesTo s k (w .0)) (w .2 ∙ sym d) (upto-comes s k (kindAlong k) steps before taken i u (w .0) (w .1));
-        earlier = inr (refl, w .1);
-      }))
-  stop-fault taken i f c z u (at-count e d l n t) =
-      faults.too-many e
-      (record {
-        chain = k;
-        comes = subst (λ (m : ℕ). ComesTo s k m c) n (subst (ComesTo s k (length taken)) (sym d) (next-comes s k (kindAlong k) steps before taken i u z l));
-        apart = λ a b m h q. below-suc (length taken) b (omega arith)
-            (λ v. u .apart b v a m (sym (index-card s k (kindAlong k) steps before taken i u a (omega arith)) ∙ q ∙ index-card s k (kindAlong k) steps before taken i u b v))
-            (λ v. member-not taken i t a (omega arith)
-            (sym (index-card s k (kindAlong k) steps before taken i u a (omega arith)) ∙ q ∙ ap (indexAt s k) v ∙ index-next s k (kindAlong k) steps before taken i u));
-      })
-  stop-fault taken i f c z u (at-kind e d l t) =
-      faults.other-kind e
-      (record {
-        chain = k;
-        number = length taken;
-        comes = subst (ComesTo s k (length taken)) (sym d) (next-comes s k (kindAlong k) steps before taken i u z l);
-        other = λ q. eqb-false (kindOf s i) (kindAlong k) t (ap (kindOf s) (sym d) ∙ q);
-      })
-  stop-fault taken i f c z u (at-fields e d l t) =
-      faults.wrong-field e
-      (record {
-        chain = k;
-        number = length taken;
-        comes = subst (ComesTo s k (length taken)) (sym d) (next-comes s k (kindAlong k) steps before taken i u z l);
-        wrong = λ o. true-false (passes i (subst (InOrder s k) d o)) t;
-      })
+  -- a card that neither the chains before nor the indices before have reached
+  not-reached : (m x : ℕ) → before x ≡ false → ((a : ℕ) → a < m → indexAt s k a ≡ x → ⊥) → Reached s k m x → ⊥
+  not-reached m x b apart r = go (r .chain) (r .number) (r .came) (r .earlier)
+    where
+      go : (l : ChainName) (a : ℕ) → ComesTo s l a x → IndexBefore l a k m → ⊥
+      go l a w (inl h) = missed x b l a h w
+      go l a w (inr h) = apart a (h .1) (subst (λ (y : ChainName). ComesTo s y a x) (h .0) w .index)
+
+  module _ (taken : List ℕ) (i : ℕ) (u : Upto (chainOf s (cardsIn s) (kindAlong k) steps before) (firstIndex s k) taken i) where
+    card-at : (j : ℕ) → j < length taken → indexAt s k j ≡ getD taken j 0
+    card-at = index-card s k (kindAlong k) steps before taken i u
+
+    next-at : indexAt s k (length taken) ≡ i
+    next-at = index-next s k (kindAlong k) steps before taken i u
+
+    -- none of the cards taken
+    taken-new : (m : ℕ) → m < length taken → Reached s k m (indexAt s k m) → ⊥
+    taken-new m l =
+        not-reached m (indexAt s k m) (subst (λ (x : ℕ). before x ≡ false) (sym (card-at m l)) (u .fresh m l))
+        (λ a h e. u .apart m l a h (sym (card-at a (omega arith)) ∙ e ∙ card-at m l))
+
+    -- nor the one after them
+    next-new : before i ≡ false → member taken i ≡ false → Reached s k (length taken) (indexAt s k (length taken)) → ⊥
+    next-new b t =
+        not-reached (length taken) (indexAt s k (length taken)) (subst (λ (x : ℕ). before x ≡ false) (sym next-at) b)
+        (λ a h e. member-not taken i t a h (sym (card-at a h) ∙ e ∙ next-at))
+
+    module _ (z : 0 < i) (f c : ℕ) where
+      here : i < cardsIn s → c ≡ i → ComesTo s k (length taken) c
+      here l d = subst (ComesTo s k (length taken)) (sym d) (next-comes s k (kindAlong k) steps before taken i u z l)
+
+      again : f ≡ reachedFault → c ≡ i → i < cardsIn s → Reached s k (length taken) c → Fault s f c
+      again e d l r = faults.reached-before e (record { chain = k; number = length taken; comes = here l d; reached = r; first = taken-new })
+
+      stop-fault : StopsAt (chainOf s (cardsIn s) (kindAlong k) steps before) (mostAlong k) taken i f c → Fault s f c
+      stop-fault (at-index e d l) =
+          let n = next-at in
+          faults.index-too-high e
+          (record {
+            chain = k;
+            number = length taken;
+            leads = upto-leads s k (kindAlong k) steps before taken i u;
+            some = omega arith;
+            high = omega arith;
+            card = d ∙ upto-holder s k (kindAlong k) steps before taken i u;
+          })
+      stop-fault (at-reached e d l t) =
+          or-cases (before i) (member taken i) t
+          (λ b. let w = came i b in
+          again e d l (record { chain = w .0; number = w .1; came = subst (ComesTo s (w .0) (w .1)) (sym d) (w .3); earlier = inl (w .2) }))
+          (λ b. let w = member-place taken i b in
+          again e d l
+          (record {
+            chain = k;
+            number = w .0;
+            came = subst (ComesTo s k (w .0)) (w .2 ∙ sym d) (upto-comes s k (kindAlong k) steps before taken i u (w .0) (w .1));
+            earlier = inr (refl, w .1);
+          }))
+      stop-fault (at-count e d l n b t) =
+          faults.too-many e
+          (record {
+            chain = k;
+            comes = subst (λ (m : ℕ). ComesTo s k m c) n (here l d);
+            kinds = λ a h. ap (kindOf s) (card-at a (omega arith)) ∙ eqb-true _ _ (u .mine a (omega arith));
+            new = λ a h. below-suc (length taken) a (omega arith) (taken-new a)
+                (λ q. subst (λ (m : ℕ). Reached s k m (indexAt s k m) → ⊥) (sym q) (next-new b t));
+          })
+      stop-fault (at-kind e d l t) =
+          faults.other-kind e
+          (record {
+            chain = k;
+            number = length taken;
+            comes = here l d;
+            other = λ q. eqb-false (kindOf s i) (kindAlong k) t (ap (kindOf s) (sym d) ∙ q);
+          })
+      stop-fault (at-fields e d l m t) =
+          faults.wrong-field e
+          (record {
+            chain = k;
+            number = length taken;
+            comes = here l d;
+            kind = ap (kindOf s) d ∙ eqb-true _ _ m;
+            wrong = λ o. true-false (passes i (subst (InOrder s k) d o)) t;
+          })
 
   chain-fault : (f c : ℕ) → walk (chainOf s (cardsIn s) (kindAlong k) steps before) (mostAlong k) [] 0 (firstIndex s k) ≡ refused f c → Fault s f c
   chain-fault f c e =
       let w = walk-stopped (chainOf s (cardsIn s) (kindAlong k) steps before) (mostAlong k) (firstIndex s k) f c e in
-      stop-fault (w .taken) (w .index) f c (w .some) (w .upto) (w .why)
+      stop-fault (w .taken) (w .index) (w .upto) (w .some) f c (w .why)
 
 -- a chain without cards has no first one
 none-first : {s : List ℕ} {k : ChainName} {l : List ℕ} → Traced s k l → eqb (length l) 0 ≡ true → firstIndex s k ≡ 0
@@ -143,10 +165,12 @@ module _ {s : List ℕ} {k : ChainName} {l : List ℕ} (t : Traced s k l) (test 
         clashes =
             record {
               comes = t .each i h;
+              kind = t .kinds i h;
               earlier-number = w .0;
               earlier-card = getD l (w .0) 0;
               earlier = w .1;
               came = t .each (w .0) (omega (arith, w .1));
+              earlier-kind = t .kinds (w .0) (omega (arith, w .1));
               another = t .apart (w .0) i (w .1) h;
               clashing = is-clash (w .0) i (w .2);
             };
@@ -158,6 +182,12 @@ module _ {s : List ℕ} {k : ChainName} {l : List ℕ} (t : Traced s k l) (test 
             true-false (is-found (c .earlier-number) j both)
             (any-none j (λ x. test x j) (first-none (length l) (λ m. any m (λ x. test x m)) j m) (c .earlier-number) (c .earlier));
       }
+
+-- a card that is none of the people is on no chain before the steps
+people-missed : {s people : List ℕ} → Traced s peopleChain people → (c : ℕ) → member people c ≡ false → (l : ChainName) (j : ℕ) → rank l < 1 → ComesTo s l j c → ⊥
+people-missed t c b peopleChain j h w = true-false (comes-member t j c w) b
+people-missed t c b stepsChain j h w = omega arith
+people-missed t c b rulesChain j h w = omega arith
 
 -- ---- the whole sheet
 
@@ -189,11 +219,11 @@ module _ (s : List ℕ) (g d : ℕ) where
         on : (k : ChainName) (j : ℕ) {c : ℕ} → ComesTo s k j c → onThree people steps rules c ≡ true
         on peopleChain j {c} w =
             or-left (onTwo people steps c) (member rules c)
-            (or-left (member people c) (member steps c) (member-has people j c (comes-before-end tp j c w) (comes-card tp j c w)))
+            (or-left (member people c) (member steps c) (comes-member tp j c w))
         on stepsChain j {c} w =
             or-left (onTwo people steps c) (member rules c)
-            (or-right (member people c) (member steps c) (member-has steps j c (comes-before-end ts j c w) (comes-card ts j c w)))
-        on rulesChain j {c} w = or-right (onTwo people steps c) (member rules c) (member-has rules j c (comes-before-end tr j c w) (comes-card tr j c w))
+            (or-right (member people c) (member steps c) (comes-member ts j c w))
+        on rulesChain j {c} w = or-right (onTwo people steps c) (member rules c) (comes-member tr j c w)
 
     checked-fault : (rules : List ℕ) → Traced s rulesChain rules → checked s (cardsIn s) people steps rules ≡ fault g d → Fault s g d
     unfolding checked
@@ -224,15 +254,20 @@ module _ (s : List ℕ) (g d : ℕ) where
     rules-fault : along (walk (chainOf s (cardsIn s) ruleKind (length steps) (onTwo people steps)) 64 [] 0 (firstIndex s rulesChain)) (checked s (cardsIn s) people steps) ≡ fault g d → Fault s g d
     rules-fault e =
         along-fault _ (checked s (cardsIn s) people steps) g d e
-        (chain-fault s rulesChain (length steps) (onTwo people steps) came
+        (chain-fault s rulesChain (length steps) (onTwo people steps) came missed
         (λ c o. fields-rule s (length steps) ruleKind c (λ e. omega arith) (λ e. omega arith) ∙ rule-true s c (length steps) (ts .ends) o) g d)
-        (λ rules w. checked-fault rules (traced s rulesChain ruleKind (length steps) 64 (onTwo people steps) rules (walk-chained _ _ _ rules w)))
+        (λ rules w. checked-fault rules (traced s rulesChain (length steps) 64 (onTwo people steps) rules (walk-chained _ _ _ rules w)))
       where
         came : (c : ℕ) → onTwo people steps c ≡ true → (l : ChainName) × (j : ℕ) × (rank l < 2) × ComesTo s l j c
         came c t =
             or-cases (member people c) (member steps c) t
             (λ q. let w = member-comes tp c q in (peopleChain, w .0, omega arith, w .1))
             (λ q. let w = member-comes ts c q in (stepsChain, w .0, omega arith, w .1))
+
+        missed : (c : ℕ) → onTwo people steps c ≡ false → (l : ChainName) (j : ℕ) → rank l < 2 → ComesTo s l j c → ⊥
+        missed c b peopleChain j h w = true-false (or-left (member people c) (member steps c) (comes-member tp j c w)) b
+        missed c b stepsChain j h w = true-false (or-right (member people c) (member steps c) (comes-member ts j c w)) b
+        missed c b rulesChain j h w = omega arith
 
     -- permitted bits from the number of steps on
     late : (length steps ≡ 0 → ⊥) → firstLate s (length steps) people < length people
@@ -244,6 +279,7 @@ module _ (s : List ℕ) (g d : ℕ) where
           chain = peopleChain;
           number = i;
           comes = tp .each i h;
+          kind = tp .kinds i h;
           wrong = λ o.
               true-false (only-below (length steps) (permittedOf s (getD people i 0)) (o .steps (length steps) (ts .ends) (omega arith)))
               (not-true _ (first-has (length people) (λ m. not (onlyBelow (length steps) (permittedOf s (getD people m 0)))) h));
@@ -262,17 +298,17 @@ module _ (s : List ℕ) (g d : ℕ) where
   unfolding readPeople peopleRead
   people-fault e =
       along-fault _ (peopleRead s (cardsIn s)) g d e
-      (chain-fault s peopleChain 0 (λ c. false) (λ c t. true-false t refl) (λ c o. fields-person s 0 personKind c refl ∙ person-true s c o) g d)
+      (chain-fault s peopleChain 0 (λ c. false) (λ c t. true-false t refl) (λ c b l j h w. omega arith) (λ c o. fields-person s 0 personKind c refl ∙ person-true s c o) g d)
       (λ people wp e₁.
-      let tp = traced s peopleChain personKind 0 64 (λ c. false) people (walk-chained _ _ _ people wp) in
+      let tp = traced s peopleChain 0 64 (λ c. false) people (walk-chained _ _ _ people wp) in
       unless-fault (eqb (length people) 0) countFault 0 _ g d e₁
       (λ t x y. faults.none-along x (record { card = sym y; none = inl (none-first tp t) }))
       (λ t e₂. along-fault _ (stepsRead s (cardsIn s) people) g d e₂
-      (chain-fault s stepsChain 0 (member people) (λ c q. let w = member-comes tp c q in (peopleChain, w .0, omega arith, w .1))
+      (chain-fault s stepsChain 0 (member people) (λ c q. let w = member-comes tp c q in (peopleChain, w .0, omega arith, w .1)) (people-missed tp)
       (λ c o. fields-step s 0 stepKind c (λ e. omega arith) refl ∙ step-true s c o) g d)
-      (λ steps ws. steps-fault people steps tp (traced s stepsChain stepKind 0 12 (member people) steps (walk-chained _ _ _ steps ws)))))
+      (λ steps ws. steps-fault people steps tp (traced s stepsChain 0 12 (member people) steps (walk-chained _ _ _ steps ws)))))
 
--- "A refusal given is a fault there"
+-- a refusal that is given is a fault of the sheet at that card
 pub refusal-is-fault : (s : List ℕ) (f c : ℕ) → readSheet s ≡ fault f c → Fault s f c
 unfolding readSheet
 refusal-is-fault s f c e =

@@ -146,18 +146,25 @@ pub record IndexTooHigh (s : List ℕ) (c : ℕ) : Type 0 where
   pub chain : ChainName
   pub number : ℕ
   pub leads : LeadsUpTo s chain number
+  pub some : 0 < indexAt s chain number
   pub high : cardsIn s ≤ indexAt s chain number
   pub card : c ≡ holderAt s chain number
 
--- "6: a chain comes to a card already reached. That card.": an earlier index leads to it
+-- an index before index j of the chain leads to card c
+pub record Reached (s : List ℕ) (k : ChainName) (j c : ℕ) : Type 0 where
+  pub chain : ChainName
+  pub number : ℕ
+  pub came : ComesTo s chain number c
+  pub earlier : IndexBefore chain number k j
+
+-- "6: a chain comes to a card already reached. That card."
 pub record ReachedBefore (s : List ℕ) (c : ℕ) : Type 0 where
   pub chain : ChainName
   pub number : ℕ
   pub comes : ComesTo s chain number c
-  pub earlier-chain : ChainName
-  pub earlier-number : ℕ
-  pub came : ComesTo s earlier-chain earlier-number c
-  pub earlier : IndexBefore earlier-chain earlier-number chain number
+  pub reached : Reached s chain number c
+  -- the first such card of the chain
+  pub first : (i : ℕ) → i < number → Reached s chain i (indexAt s chain i) → ⊥
 
 -- "7: a card of another kind than its chain. That card."
 pub record OtherKind (s : List ℕ) (c : ℕ) : Type 0 where
@@ -171,6 +178,7 @@ pub record WrongField (s : List ℕ) (c : ℕ) : Type 0 where
   pub chain : ChainName
   pub number : ℕ
   pub comes : ComesTo s chain number c
+  pub kind : kindOf s c ≡ kindAlong chain
   pub wrong : InOrder s chain c → ⊥
 
 -- "9: no people or no steps (card 0)"
@@ -178,19 +186,23 @@ pub record NoneAlong (s : List ℕ) (c : ℕ) : Type 0 where
   pub card : c ≡ 0
   pub none : (firstPerson s ≡ 0) ⊎ (firstStep s ≡ 0)
 
--- "or more than 64 people, 12 steps or 64 rules (the first card too many)": so many different cards come before it
+-- "or more than 64 people, 12 steps or 64 rules (the first card too many)": so many people, steps or rules come before it on the chain, and none of
+-- them, nor the card, was reached before
 pub record TooMany (s : List ℕ) (c : ℕ) : Type 0 where
   pub chain : ChainName
   pub comes : ComesTo s chain (mostAlong chain) c
-  pub apart : (i j : ℕ) → i < j → j ≤ mostAlong chain → indexAt s chain i ≡ indexAt s chain j → ⊥
+  pub kinds : (i : ℕ) → i < mostAlong chain → kindOf s (indexAt s chain i) ≡ kindAlong chain
+  pub new : (i : ℕ) → i ≤ mostAlong chain → Reached s chain i (indexAt s chain i) → ⊥
 
--- the chain comes to card c by its index j, and came to another card before that clashes with it
+-- the chain comes to card c by its index j, and came to another card before that clashes with it; both are of the chain's kind
 pub record Clashes (s : List ℕ) (k : ChainName) (clash : ℕ → ℕ → Type 0) (j c : ℕ) : Type 0 where
   pub comes : ComesTo s k j c
+  pub kind : kindOf s c ≡ kindAlong k
   pub earlier-number : ℕ
   pub earlier-card : ℕ
   pub earlier : earlier-number < j
   pub came : ComesTo s k earlier-number earlier-card
+  pub earlier-kind : kindOf s earlier-card ≡ kindAlong k
   pub another : earlier-card ≡ c → ⊥
   pub clashing : clash earlier-card c
 

@@ -9,23 +9,23 @@ use Rattle.resiliency.proofs.call.write_count.Tie as tie
 enum-told : tie.Need-enum-told
 enum-told c = search needs
 
-returned-requires : tie.Need-returned-requires
-returned-requires c κs = search needs
-
-returns : tie.Need-returns
-returns c = left-none _ _ [] _ _ _ (c .returned .ensures) (c .before .enum-told .given .1)
-
-enum-told-2 : tie.Need-enum-told-2
-enum-told-2 c = search needs
-
 put-four-requires : tie.Need-put-four-requires
 put-four-requires c κs = search needs
 
 same-length : tie.Need-same-length
 same-length c = search needs
 
+returns : tie.Need-returns
+returns c = left-capped _ _ _ _ _ (c .before .before .before .before .before .before .before .pre .1) (c .before .before .before .before .enum-told .given .1) (c .before .before .put-four .ensures)
+
+enum-told-2 : tie.Need-enum-told-2
+enum-told-2 c = search needs
+
+returned-requires : tie.Need-returned-requires
+returned-requires c κs = search needs
+
 returns-2 : tie.Need-returns-2
-returns-2 c = left-capped _ _ _ _ _ (c .before .before .before .before .before .before .before .pre .1) (c .before .before .before .before .enum-told2 .given .1) (c .before .before .put-four .ensures)
+returns-2 c = left-none _ _ [] _ _ _ (c .returned .ensures) (c .before .enum-told2 .given .1)
 
 enum-known-count : tie.Need-enum-known-count
 enum-known-count c = search needs
@@ -104,11 +104,11 @@ write-count-spec =
     tie.close
     (tie.spec
     enum-told
-    returned-requires
-    returns
-    enum-told-2
     put-four-requires
     same-length
+    returns
+    enum-told-2
+    returned-requires
     returns-2
     enum-known-count
     mul-put-four
