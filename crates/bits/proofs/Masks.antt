@@ -15,7 +15,7 @@ use Rattle.bits.specs.Below.{count}
 use Rattle.bits.specs.Word.{hasBit}
 use Rattle.bits.specs.Set.{unlike, Added, Removed, Lowest, FirstAndRest, Mask, Sifted, LeastKey}
 use Rattle.bits.proofs.Below.{by-cases, true-false}
-use Rattle.bits.proofs.Counting.{and-of, is-false, count-false}
+use Rattle.bits.proofs.Counting.{is-false, count-false}
 use Rattle.bits.proofs.Ones.{ones-bits}
 use Rattle.bits.proofs.SetLaws.{and-bit-left, xor-bit, full-has, full-bit, has-below, part-le, trailing-lowest, empty-lacks, zero-empty, added-has}
 use Rattle.bits.proofs.SetLaws.{added-other, removed-other, removed-was, removed-differs, removed-less}
@@ -111,35 +111,27 @@ sifted-none all test =
     }
 
 module _ {all : ℕ} {test : ℕ → Bool} {rest r i rest′ : ℕ} where
-  pub sifted-skip : Sifted all test rest r → FirstAndRest rest i rest′ → test i ≡ false → Sifted all test rest′ r
-  sifted-skip w t fails =
+  -- one element more has been tested: it is in the mask where the test says so, and nothing else has changed
+  sifted-next : {r′ : ℕ} → Sifted all test rest r → FirstAndRest rest i rest′ → hasBit r′ i ≡ test i → ((k : ℕ) → (k ≡ i → ⊥) → hasBit r′ k ≡ hasBit r k)
+      → Sifted all test rest′ r′
+  sifted-next {r′} w t said same =
       let gone = t .removed in
-      let has = t .lowest .has in
       record {
         part = λ k h. w .part k (removed-was gone k h);
         done = λ k h.
             by-cases (eqb k i)
-            (λ t. let e : k ≡ i = eqb-true k i t in
-            subst (λ (x : ℕ). hasBit r x ≡ hasBit all x && test x) (sym e)
-            (w .left i has ∙ sym (ap (λ (b : Bool). b && test i) (w .part i has) ∙ fails)))
-            (λ t. w .done k (sym (removed-other gone k (eqb-false k i t)) ∙ h));
-        left = λ k h. w .left k (removed-was gone k h);
+            (λ q. let e : k ≡ i = eqb-true k i q in
+            subst (λ (x : ℕ). hasBit r′ x ≡ hasBit all x && test x) (sym e) (said ∙ sym (ap (λ (b : Bool). b && test i) (w .part i (t .lowest .has)))))
+            (λ q. let d : k ≡ i → ⊥ = eqb-false k i q in
+            same k d ∙ w .done k (sym (removed-other gone k d) ∙ h));
+        left = λ k h. same k (removed-differs gone k h) ∙ w .left k (removed-was gone k h);
       }
 
+  pub sifted-skip : Sifted all test rest r → FirstAndRest rest i rest′ → test i ≡ false → Sifted all test rest′ r
+  sifted-skip w t fails = sifted-next w t (w .left i (t .lowest .has) ∙ sym fails) (λ k d. refl)
+
   pub sifted-take : {r′ : ℕ} → Sifted all test rest r → FirstAndRest rest i rest′ → test i ≡ true → Added r i r′ → Sifted all test rest′ r′
-  sifted-take {r′} w t holds more =
-      let gone = t .removed in
-      let has = t .lowest .has in
-      record {
-        part = λ k h. w .part k (removed-was gone k h);
-        done = λ k h.
-            by-cases (eqb k i)
-            (λ t. let e : k ≡ i = eqb-true k i t in
-            subst (λ (x : ℕ). hasBit r′ x ≡ hasBit all x && test x) (sym e) (added-has more ∙ sym (and-of (hasBit all i) (test i) (w .part i has) holds)))
-            (λ t. let d : k ≡ i → ⊥ = eqb-false k i t in
-            added-other more k d ∙ w .done k (sym (removed-other gone k d) ∙ h));
-        left = λ k h. added-other more k (removed-differs gone k h) ∙ w .left k (removed-was gone k h);
-      }
+  sifted-take w t holds more = sifted-next w t (added-has more ∙ sym holds) (added-other more)
 
 -- with nothing left, the mask is that of a set which the test gives
 pub sifted-all : (S : ℕ → Bool) {all : ℕ} {test : ℕ → Bool} {rest r : ℕ} → Sifted all test rest r → rest ≡ 0 → ((i : ℕ) → hasBit all i && test i ≡ S i) → Mask S r

@@ -68,7 +68,13 @@ and-six : (a b c d e f : Bool) → a && b && c && d && e && f ≡ true → (a �
 and-six a b c d e f h =
     let w = and-five a b c d e (and-left (a && b && c && d && e) f h) in (w .0, w .1, w .2, w .3, w .4, and-right (a && b && c && d && e) f h)
 
--- a length that is not wrong
+-- a length that passes is not wrong, and the other way round
+pub length-right : (n : ℕ) → lengthOk n ≡ true → (n ≡ 0 → ⊥) × (n % 16 ≡ 0) × (n ≤ 2256)
+length-right n h =
+    let a = and-left (nonzero n && eqb (n % 16) 0) (leb n 2256) h in
+    let some = eqb-false n 0 (not-true (eqb n 0) (and-left (nonzero n) (eqb (n % 16) 0) a)) in
+    (some, eqb-true _ _ (and-right (nonzero n) (eqb (n % 16) 0) a), leb-true _ _ (and-right (nonzero n && eqb (n % 16) 0) (leb n 2256) h))
+
 pub length-true : (n : ℕ) → (n ≡ 0 → ⊥) → n % 16 ≡ 0 → n ≤ 2256 → lengthOk n ≡ true
 length-true n a b c = rw (ne-eqb n 0 a, eq-eqb (n % 16) 0 b, le-leb n 2256 c) refl
 

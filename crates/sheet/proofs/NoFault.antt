@@ -1,41 +1,32 @@
 -- "A sheet with none of the faults 3 to 12 is readable", and a readable sheet has none of them. Assumes nothing.
-use mathlib.Core.Bool.{Bool, true, false, _&&_, _||_}
+use mathlib.Core.Bool.{Bool, true, false, _||_}
 use mathlib.Core.List.{List, _++_}
 use mathlib.Core.Logic.{inl, inr, ⊎-elim}
 use mathlib.Core.Path.{_≡_, refl, sym, _∙_, ap, subst}
-use Prim.Native.Nat.{ℕ, _%_, _<_, _≤_}
+use Prim.Native.Nat.{ℕ, _<_, _≤_}
 use native.Mathlib.Omega.{arith}
-use lib.Dec.{eqb, leb, ltb}
+use lib.Dec.{ltb}
 use lib.ListN.{length, getD}
-use borrow.Author.Tests.{eqb-true, eqb-false, leb-true, ltb-true, ltb-false, not-true}
+use borrow.Author.Tests.{eqb-false, ltb-true, ltb-false}
 use Rattle.bits.specs.Member.{member}
-use Rattle.bits.proofs.Below.{by-cases, true-false, and-left, and-right}
+use Rattle.bits.proofs.Below.{by-cases, true-false}
 use Rattle.bits.proofs.Counting.{is-false}
 use Rattle.bits.proofs.Masks.{or-cases, or-left, or-right}
 use Rattle.bits.proofs.Member.{member-has, member-append}
 use Rattle.card.specs.Layout.{kindOf}
-use Rattle.card.specs.Fields.{headerOk, nonzero, permittedOf, onlyBelow}
+use Rattle.card.specs.Fields.{headerOk, permittedOf, onlyBelow}
 use Rattle.sheet.specs.Read.{Read, job, fault, lengthOk, readSheet, onTwo, firstClash, sameTag}
 use Rattle.sheet.specs.Faults as faults
 use Rattle.sheet.specs.Faults.{ChainName, peopleChain, stepsChain, rulesChain, rank, cardsIn, kindAlong, mostAlong, indexAt, firstIndex}
 use Rattle.sheet.specs.Faults.{ComesTo, InOrder, IndexBefore, Clashes, SameTags, SameBenchOtherShop, Fault}
 use Rattle.sheet.specs.Readable.{Chains}
 use Rattle.sheet.proofs.Chains.{chains}
-use Rattle.sheet.proofs.InOrder.{header-in-order, person-in-order, step-in-order, rule-in-order}
+use Rattle.sheet.proofs.InOrder.{length-right, header-in-order, person-in-order, step-in-order, rule-in-order}
 use Rattle.sheet.proofs.Indices.{Traced, traced, comes-before-end, comes-card, comes-member, leads-before-end, ends-once, member-comes}
 use Rattle.sheet.proofs.Order.{length-facts}
 use Rattle.sheet.proofs.Passes.{Passes, sheet-passes}
 use Rattle.sheet.proofs.Readable.{person-card, step-card, rule-card, not-late, no-clash, later-shop}
 use Rattle.sheet.proofs.Refusals.{refusal-is-fault}
-
--- a length that passes is not wrong
-length-right : (n : ℕ) → lengthOk n ≡ true → (n ≡ 0 → ⊥) × (n % 16 ≡ 0) × (n ≤ 2256)
-length-right n h =
-    let a = and-left (nonzero n && eqb (n % 16) 0) (leb n 2256) h in (
-      eqb-false n 0 (not-true (eqb n 0) (and-left (nonzero n) (eqb (n % 16) 0) a)),
-      eqb-true _ _ (and-right (nonzero n) (eqb (n % 16) 0) a),
-      leb-true _ _ (and-right (nonzero n && eqb (n % 16) 0) (leb n 2256) h),
-    )
 
 -- the cards of a chain
 abbrev cardsAlong : List ℕ → List ℕ → List ℕ → ChainName → List ℕ
@@ -137,33 +128,33 @@ module _ (s people steps rules : List ℕ) (some : 0 < cardsIn s) (p : Passes s 
       (λ v. let x = member-comes (trace stepsChain) c v in (stepsChain, x .0, x .1)))
       (λ u. let x = member-comes (trace rulesChain) c u in (rulesChain, x .0, x .1))
 
-  no-fault : lengthOk (length s) ≡ true → headerOk s (cardsIn s) ≡ true → (f c : ℕ) → Fault s f c → ⊥
-  no-fault a b f c (faults.wrong-length e w) =
+  passes-no-fault : lengthOk (length s) ≡ true → headerOk s (cardsIn s) ≡ true → (f c : ℕ) → Fault s f c → ⊥
+  passes-no-fault a b f c (faults.wrong-length e w) =
       let r = length-right (length s) a in ⊎-elim (r .0) (⊎-elim (λ n. n (r .1)) (λ l. omega (arith, r .2))) (w .wrong)
-  no-fault a b f c (faults.wrong-header e w) = w .wrong (header-in-order s b)
-  no-fault a b f c (faults.index-too-high e w) = no-index-too-high (w .chain) (w .number) (w .leads) (w .high)
-  no-fault a b f c (faults.reached-before e w) =
+  passes-no-fault a b f c (faults.wrong-header e w) = w .wrong (header-in-order s b)
+  passes-no-fault a b f c (faults.index-too-high e w) = no-index-too-high (w .chain) (w .number) (w .leads) (w .high)
+  passes-no-fault a b f c (faults.reached-before e w) =
       let r = w .reached in no-reached-before (r .chain) (w .chain) (r .number) (w .number) c (r .came) (w .comes) (r .earlier)
-  no-fault a b f c (faults.other-kind e w) =
+  passes-no-fault a b f c (faults.other-kind e w) =
       w .other (at (w .chain) (λ (x : ℕ). kindOf s x ≡ kindAlong (w .chain)) (trace (w .chain) .kinds) (w .number) c (w .comes))
-  no-fault a b f c (faults.wrong-field e w) = w .wrong (at (w .chain) (InOrder s (w .chain)) (in-order (w .chain)) (w .number) c (w .comes))
-  no-fault a b f c (faults.none-along e w) = ⊎-elim (first-some peopleChain (p .people-some)) (first-some stepsChain (p .steps-some)) (w .none)
-  no-fault a b f c (faults.too-many e w) =
+  passes-no-fault a b f c (faults.wrong-field e w) = w .wrong (at (w .chain) (InOrder s (w .chain)) (in-order (w .chain)) (w .number) c (w .comes))
+  passes-no-fault a b f c (faults.none-along e w) = ⊎-elim (first-some peopleChain (p .people-some)) (first-some stepsChain (p .steps-some)) (w .none)
+  passes-no-fault a b f c (faults.too-many e w) =
       let l = comes-before-end (trace (w .chain)) (mostAlong (w .chain)) c (w .comes) in let m = few (w .chain) in omega arith
-  no-fault a b f c (faults.tag-twice e (inl w)) =
+  passes-no-fault a b f c (faults.tag-twice e (inl w)) =
       no-clashes peopleChain (SameTags s) (same-tags-not people (p .people-tags)) (w .number) c (w .clashes)
-  no-fault a b f c (faults.tag-twice e (inr w)) =
+  passes-no-fault a b f c (faults.tag-twice e (inr w)) =
       no-clashes stepsChain (SameTags s) (same-tags-not steps (p .steps-tags)) (w .number) c (w .clashes)
-  no-fault a b f c (faults.bench-in-two-shops e w) =
+  passes-no-fault a b f c (faults.bench-in-two-shops e w) =
       no-clashes peopleChain (SameBenchOtherShop s)
       (λ i j l m h. h .1 (later-shop s people steps rules (cardsIn s) p i j l m (h .0))) (w .number) c (w .clashes)
-  no-fault a b f c (faults.on-no-chain e w) = let x = covered c (w .some) (w .inside) in w .none (x .0) (x .1) (x .2)
+  passes-no-fault a b f c (faults.on-no-chain e w) = let x = covered c (w .some) (w .inside) in w .none (x .0) (x .1) (x .2)
 
 -- a readable sheet has none of the faults
 pub readable-no-fault : (s people steps rules : List ℕ) → readSheet s ≡ job people steps rules → (f c : ℕ) → Fault s f c → ⊥
 readable-no-fault s people steps rules e =
     let p = sheet-passes s people steps rules e in
-    no-fault s people steps rules (length-facts (length s) (p .good-length) .1 .1) (p .rest) (p .good-length) (p .good-header)
+    passes-no-fault s people steps rules (length-facts (length s) (p .good-length) .1 .1) (p .rest) (p .good-length) (p .good-header)
 
 -- and a sheet that has none is readable
 pub no-fault-readable : (s : List ℕ) → ((f c : ℕ) → Fault s f c → ⊥) → (people : List ℕ) × (steps : List ℕ) × (rules : List ℕ) × (readSheet s ≡ job people steps rules)

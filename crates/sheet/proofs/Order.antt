@@ -1,16 +1,14 @@
 -- The order in which a sheet is read, case by case: the answer that the code gives on its way is that of the definition.
 -- Assumes nothing.
-use mathlib.Core.Bool.{Bool, true, false, _&&_}
+use mathlib.Core.Bool.{Bool, true, false}
 use mathlib.Core.List.{List}
 use mathlib.Core.Path.{_≡_, sym, _∙_, ap}
-use Prim.Native.Nat.{ℕ, _*_, _/_, _%_, _<_, _≤_}
+use Prim.Native.Nat.{ℕ, _*_, _/_, _<_, _≤_}
 use native.Mathlib.Omega.{arith}
 use lib.ListN.{length, getD, take}
 use lib.Seq.{getD-take}
-use lib.Dec.{eqb, leb}
-use borrow.Author.Tests.{eq-eqb, ne-eqb, lt-ltb, le-ltb, eqb-true, eqb-false, leb-true, not-true}
-use Rattle.bits.proofs.Below.{and-left, and-right}
-use Rattle.card.specs.Fields.{headerOk, nonzero}
+use borrow.Author.Tests.{eq-eqb, ne-eqb, lt-ltb, le-ltb}
+use Rattle.card.specs.Fields.{headerOk}
 use Rattle.card.specs.Refusals.{lengthFault, headerFault, fieldFault, countFault}
 use Rattle.chain.specs.Walk.{Walked, listed, refused}
 use Rattle.sheet.specs.Read.{Read, fault, along, checked, peopleWalk, stepsWalk, rulesWalk, stepsRead, peopleRead, readPeople, readSheet, lengthOk, firstLate}
@@ -18,6 +16,7 @@ use Rattle.sheet.specs.Answer.{answer, sheetOf}
 use Rattle.sheet.specs.Cards.{Listing}
 use Rattle.sheet.specs.declared.Sheet.{Sheet}
 use Rattle.sheet.proofs.Arrays.{length-listing}
+use Rattle.sheet.proofs.InOrder.{length-right}
 
 -- an answer that holds of a refusal on every sheet holds of it on this one
 refusal : (s : List ℕ) {a : Sheet} {f c : ℕ} {r : Read} → ((t : List ℕ) → a ≡ answer t (fault f c)) → fault f c ≡ r → a ≡ answer s r
@@ -90,10 +89,8 @@ module _ (s : List ℕ) (cards : ℕ) where
 -- what a good length says: there is a header, and the cards are 1 to 141
 pub length-facts : (n : ℕ) → lengthOk n ≡ true → (16 ≤ n) × ((16 * (n / 16) ≤ n) × (0 < n / 16) × (n / 16 ≤ 141))
 length-facts n h =
-    let a = and-left (nonzero n && eqb (n % 16) 0) (leb n 2256) h in
-    let x : n ≡ 0 → ⊥ = eqb-false n 0 (not-true (eqb n 0) (and-left (nonzero n) (eqb (n % 16) 0) a)) in
-    let y : n % 16 ≡ 0 = eqb-true _ _ (and-right (nonzero n) (eqb (n % 16) 0) a) in
-    let z : n ≤ 2256 = leb-true _ _ (and-right (nonzero n && eqb (n % 16) 0) (leb n 2256) h) in
+    let r = length-right n h in
+    let x = r .0 in let y = r .1 in let z = r .2 in
     (omega arith, (omega arith, omega arith, omega arith))
 
 module _ (s : List ℕ) {t : Bool} where

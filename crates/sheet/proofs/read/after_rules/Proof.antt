@@ -10,7 +10,7 @@ use Rattle.sheet.specs.Cards.{Marking}
 use Rattle.sheet.specs.Read.{onThree}
 use Rattle.sheet.proofs.Arrays.{Filled, person-tags-length, step-tags-length, benches-length, shops-length}
 use Rattle.sheet.proofs.Arrays.{refuse-person-tag, refuse-step-tag, refuse-bench, refuse-loose, read-job}
-use Rattle.sheet.proofs.Four.{first-one, first-two, first-three, first-four, first-none}
+use Rattle.sheet.proofs.Four.{four-one, four-two, four-three, four-four, four-none}
 use Rattle.sheet.proofs.read.after_rules.Statement.{statement}
 use Rattle.sheet.proofs.read.after_rules.Tie as tie
 
@@ -74,16 +74,16 @@ first-found-requires c κs = search needs
 
 -- which search was the first to find something
 person-found : (f : tie.After-first-found) → f .first-found .result ≡ 1 → people-of f .tag-clash .result < start f .args .p
-person-found f e = ltb-true _ _ (first-one _ _ _ _ (sym (f .first-found .ensures) ∙ e))
+person-found f e = ltb-true _ _ (four-one _ _ _ _ (sym (f .first-found .ensures) ∙ e))
 
 step-found : (f : tie.After-first-found) → f .first-found .result ≡ 2
     → (start f .args .p ≤ people-of f .tag-clash .result) × (steps-of f .tag-clash2 .result < start f .args .n)
-step-found f e = let w = first-two _ _ _ _ (sym (f .first-found .ensures) ∙ e) in (ltb-false _ _ (w .0), ltb-true _ _ (w .1))
+step-found f e = let w = four-two _ _ _ _ (sym (f .first-found .ensures) ∙ e) in (ltb-false _ _ (w .0), ltb-true _ _ (w .1))
 
 bench-found : (f : tie.After-first-found) → f .first-found .result ≡ 3
     → (start f .args .p ≤ people-of f .tag-clash .result) × (start f .args .n ≤ steps-of f .tag-clash2 .result) × (benches-of f .bench-clash .result < start f .args .p)
 bench-found f e =
-    let w = first-three _ _ _ _ (sym (f .first-found .ensures) ∙ e) in (ltb-false _ _ (w .0), ltb-false _ _ (w .1), ltb-true _ _ (w .2))
+    let w = four-three _ _ _ _ (sym (f .first-found .ensures) ∙ e) in (ltb-false _ _ (w .0), ltb-false _ _ (w .1), ltb-true _ _ (w .2))
 
 element-copy-out-refused : tie.Need-element-copy-out-refused
 element-copy-out-refused c =
@@ -157,7 +157,7 @@ returns-4 c =
     let m = c .before in
     let f = m .before in
     let t = people-of f in
-    let w = first-four _ _ _ _ (sym (f .first-found .ensures) ∙ m .match .keys4) in
+    let w = four-four _ _ _ _ (sym (f .first-found .ensures) ∙ m .match .keys4) in
     refuse-loose (filled (fill-of t)) (marking (fill-of t)) (t .tag-clash .ensures) (ltb-false _ _ (w .0)) (steps-of f .tag-clash2 .ensures)
     (ltb-false _ _ (w .1)) (benches-of f .bench-clash .ensures) (ltb-false _ _ (w .2)) (f .before .first-loose .ensures) (ltb-true _ _ (w .3)) _ (c .refused4 .ensures)
 
@@ -167,7 +167,7 @@ returns-5 c =
     let t = people-of f in
     let e = f .first-found .ensures in
     let r = c .match .rest in
-    let w = first-none _ _ _ _ (λ d. r .0 .0 .0 .1 (e ∙ d)) (λ d. r .0 .0 .1 (e ∙ d)) (λ d. r .0 .1 (e ∙ d)) (λ d. r .1 (e ∙ d)) in
+    let w = four-none _ _ _ _ (λ d. r .0 .0 .0 .1 (e ∙ d)) (λ d. r .0 .0 .1 (e ∙ d)) (λ d. r .0 .1 (e ∙ d)) (λ d. r .1 (e ∙ d)) in
     read-job (filled (fill-of t)) (marking (fill-of t)) (t .tag-clash .ensures) (ltb-false _ _ (w .0)) (steps-of f .tag-clash2 .ensures)
     (ltb-false _ _ (w .1)) (benches-of f .bench-clash .ensures) (ltb-false _ _ (w .2)) (f .before .first-loose .ensures) (ltb-false _ _ (w .3))
 
