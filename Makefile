@@ -10,7 +10,7 @@ PROVED := $(shell find crates -name '*.rt' -o -name '*.antt') crates.txt
 # need TOOL: says what is missing
 need = command -v $(1) > /dev/null || { echo "$(1) is missing: it has to be on the PATH" >&2; exit 1; }
 
-.PHONY: plan test check bench record beside patterns climb soak install uninstall
+.PHONY: plan test check bench record sign beside patterns climb soak install uninstall
 
 plan: $(PLANNER)
 	@$(PLANNER) < $(SHEET)
@@ -36,12 +36,13 @@ $(LIB): $(PROVED)
 
 BENCH = cargo run --release --offline --quiet --manifest-path bench/Cargo.toml --
 
-# Times of both calls beside a hand-written search, then beside MiniSat, clingo and SAT4J, as far as they are there; the
-# tables, target/measured.csv and target/peers.csv.
+# Times of crews and spare counts beside a hand-written search, then beside MiniSat, clingo and SAT4J, as far as they are
+# there, and of jobs under work; the tables, target/measured.csv, target/peers.csv and target/sign.csv.
 bench: $(LIB)
 	@$(call need,cargo)
 	@$(BENCH) measure target/measured.csv
 	@$(BENCH) peers target/peers.csv
+	@$(BENCH) sign target/sign.csv
 
 # The same into bench/recorded, and what docs/BENCHMARKS.md shows of it.
 record: $(LIB)
@@ -50,10 +51,17 @@ record: $(LIB)
 	@mkdir -p bench/recorded
 	@$(BENCH) measure bench/recorded/measured.csv
 	@$(BENCH) peers bench/recorded/peers.csv
+	@$(BENCH) sign bench/recorded/sign.csv
 	@python3 bench/plot --into docs/BENCHMARKS.md
 
-# Both calls of the library beside those of another archive of it, OTHER, on practice and hard sheets: the answers have to be
-# the same. The times go to OUT.
+# Jobs under work alone: openings beside the crew call, signings beside the question whether a plan exists. The times go to
+# OUT.
+sign: $(LIB)
+	@$(call need,cargo)
+	@$(BENCH) sign $(or $(OUT),target/sign.csv)
+
+# Crews and spare counts of the library beside those of another archive of it, OTHER, on practice and hard sheets: the
+# answers have to be the same. The times go to OUT.
 beside: $(LIB)
 	@$(call need,cargo)
 	@test -n "$(OTHER)" || { echo "name the other archive: make beside OTHER=path/to/libfulmarinvar.a" >&2; exit 1; }
@@ -72,10 +80,10 @@ climb: $(LIB)
 	@$(call need,cargo)
 	@$(BENCH) climb target/hard --seconds $(or $(SECONDS),300) --seed $(or $(SEED),1)
 
-# Random sheets against the brute force for as long as one likes; the seed is printed.
+# Random sheets against the brute force for as long as one likes, or with RUN=histories jobs under work; the seed is printed.
 soak: $(LIB)
 	@$(call need,cargo)
-	@cargo run --release --offline --manifest-path tests/Cargo.toml --features library --bin compare -- soak $(SEED)
+	@cargo run --release --offline --manifest-path tests/Cargo.toml --features library --bin $(or $(RUN),compare) -- soak $(SEED)
 
 install: $(LIB) $(PLANNER)
 	install -D -m 644 include/fulmarinvar.h $(DESTDIR)$(PREFIX)/include/fulmarinvar.h

@@ -1,7 +1,9 @@
-/* Fulmarinvar: crews and spare counts for job sheets.
+/* Fulmarinvar: crews, spare counts and signings for job sheets.
  *
- * Two calls. Each takes a sheet and an answer area, both lent by the caller, and returns 0 or a refusal with a card.
- * Nothing is kept between calls and nothing is allocated: calls may run on several threads at once. */
+ * Two calls plan: each takes a sheet and an answer area and returns 0 or a refusal with a card. Three more open a job,
+ * sign its steps as the work goes, and tell how many signings were refused. All memory is lent by the caller, who
+ * keeps the job between its calls. The library keeps nothing and allocates nothing: calls may run on several threads
+ * at once, as long as no two of them are lent one answer area or one job. */
 #ifndef FULMARINVAR_H
 #define FULMARINVAR_H
 
@@ -26,12 +28,15 @@ extern "C" {
 #define FULMARINVAR_SPARE_BYTES 16
 #define FULMARINVAR_MOST_CAP 3
 
+/* Where the count of refused signings stops. */
+#define FULMARINVAR_MOST_REFUSALS 1000000
+
 /* The returned number is 0, or refusal * 256 + card. */
 #define FULMARINVAR_REFUSAL(number) ((uint32_t)(number) / 256u)
 #define FULMARINVAR_CARD(number) ((uint32_t)(number) % 256u)
 
 /* Of several faults the first is given, in this order: 2, 3, 4, then the faults met along the chains (5 to 9),
- * then 10, 11, 12, 1, 13. */
+ * then 10, 11, 12, 1, 13. Of a signing: 14, 15, 16. */
 enum fulmarinvar_refusal {
     FULMARINVAR_DONE = 0,
 
@@ -55,12 +60,17 @@ enum fulmarinvar_refusal {
     FULMARINVAR_LOOSE_CARD = 12,         /* a card on no chain; the lowest */
 
     /* Caused by the job itself. */
-    FULMARINVAR_NO_PLAN = 13 /* no valid plan with everyone present; card 0 */
+    FULMARINVAR_NO_PLAN = 13, /* no valid plan with everyone present; card 0 */
+
+    /* Caused by whoever signs. */
+    FULMARINVAR_UNKNOWN = 14,     /* a step or a person that is not on the sheet, or a job never opened; card 0 */
+    FULMARINVAR_STEP_SIGNED = 15, /* a step that is signed already, by whomever; card 0 */
+    FULMARINVAR_NOT_GRANTED = 16  /* no valid plan agrees with this signing and all granted before; card 0 */
 };
 
-/* In both calls `sheet` is the start of `sheet_len` readable bytes and `answer` of `answer_len` writable ones. Both
- * pointers are real, also where a length is 0, and the two areas do not overlap. The sheet is never written to; a
- * refusal leaves every byte of the answer area as it was. */
+/* In every call `sheet` is the start of `sheet_len` readable bytes and `answer` of `answer_len` writable ones. All
+ * pointers are real, also where a length is 0, and the areas lent do not overlap, a job among them. The sheet is never
+ * written to; a refusal leaves every byte of the answer area as it was. */
 
 /* The first valid plan. On 0, for step j of the step chain, counted from 0:
  *   bytes 8 * j to 8 * j + 3       the step's tag, low byte first
@@ -76,6 +86,33 @@ uint32_t fulmarinvar_crew(const uint8_t *sheet, size_t sheet_len, uint8_t *answe
  *                    valid plan is left, then zero; all zero when t equals the cap
  * Bytes from 16 on keep their values. */
 uint32_t fulmarinvar_spare(const uint8_t *sheet, size_t sheet_len, uint8_t *answer, size_t answer_len, uint32_t cap);
+
+/* A job under work: 2,276 bytes without padding or pointers, which the caller may copy, move and store. All zero:
+ * never opened. What is said of a job holds where it was all zero, or a call has opened it, and its calls alone have
+ * changed it since; on any other memory a call ends too, and writes inside the struct only. */
+struct fulmarinvar_job {
+    uint32_t refusals;                           /* refused signings since the last opening that returned 0 */
+    uint32_t sheet_len;                          /* the bytes of the sheet held */
+    uint8_t sheet[FULMARINVAR_MOST_SHEET_BYTES]; /* the sheet, zeros after its end */
+    uint8_t signer[FULMARINVAR_MOST_STEPS];      /* who signed each step, counted from 1 in crew order; 0: open */
+};
+
+/* Opens a job that has a valid plan, the first time or again. On 0 the job is made anew whatever the memory held
+ * before: it holds the sheet, no step is signed and no refusal counted. Refuses with 3 to 13 as fulmarinvar_crew does,
+ * never with 1; a refusal leaves every byte of the job as it was and is not counted. The sheet is not needed after the
+ * call. */
+uint32_t fulmarinvar_open(struct fulmarinvar_job *job, const uint8_t *sheet, size_t sheet_len);
+
+/* Signs a step by a person, both named by their tags. Returns 0 exactly when both are on the sheet, the step is open
+ * and some valid plan gives this step to this person and every signed step to its signer; then the step is signed. So
+ * as long as a step is open somebody would be granted it, and with no step open the signers are a valid plan. Refuses
+ * with 14, 15 and 16: the count is then one higher, unless it has reached 1,000,000, and no other byte of the job
+ * differs. */
+uint32_t fulmarinvar_sign(struct fulmarinvar_job *job, uint32_t step, uint32_t person);
+
+/* How many signings were refused since the last opening that returned 0, or since the start in a job never opened;
+ * stops at 1,000,000. */
+uint32_t fulmarinvar_refusals(const struct fulmarinvar_job *job);
 
 #ifdef __cplusplus
 }

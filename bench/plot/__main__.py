@@ -1,13 +1,15 @@
 """Tables and plots from recorded files.
 
-usage: python3 bench/plot [--measured CSV] [--peers CSV] [--patterns CSV] [--walk CSV] [--plots DIR] [--into FILE]
+usage: python3 bench/plot [--measured CSV] [--peers CSV] [--sign CSV] [--patterns CSV] [--walk CSV] [--plots DIR]
+                          [--into FILE]
   --measured  from 'bench measure', bench/recorded/measured.csv unless given
   --peers     from 'bench peers', bench/recorded/peers.csv unless given
+  --sign      from 'bench sign', bench/recorded/sign.csv unless given
   --patterns  from 'bench beside' with the library of bench/patterns, bench/recorded/patterns.csv unless given
   --walk      of an earlier build that counted its searches, bench/recorded/walk.csv unless given
   --plots     where the plots go, docs/plots unless given
   --into      a text that has a line '<!-- NAME -->' before and '<!-- end NAME -->' after the place of a table; without it
-              the tables are printed. The names are practice, others, peers, slower, patterns, walk
+              the tables are printed. The names are practice, others, sign, peers, slower, patterns, walk
 A file that is missing is left out.
 """
 
@@ -29,6 +31,7 @@ def arguments():
     parser = argparse.ArgumentParser(description="Tables and plots from recorded files.")
     parser.add_argument("--measured", type=Path, default=ROOT / "bench/recorded/measured.csv")
     parser.add_argument("--peers", type=Path, default=ROOT / "bench/recorded/peers.csv")
+    parser.add_argument("--sign", type=Path, default=ROOT / "bench/recorded/sign.csv")
     parser.add_argument("--patterns", type=Path, default=ROOT / "bench/recorded/patterns.csv")
     parser.add_argument("--walk", type=Path, default=ROOT / "bench/recorded/walk.csv")
     parser.add_argument("--plots", type=Path, default=ROOT / "docs/plots")
@@ -43,7 +46,7 @@ def record(path):
     return None
 
 
-def made(measured, peers, patterns, walk):
+def made(measured, peers, sign, patterns, walk):
     """Tables by name and plots by file."""
     named, drawn = {}, {}
     if measured:
@@ -58,6 +61,8 @@ def made(measured, peers, patterns, walk):
         named["slower"] = tables.slower_than(peers)
         for solver in TIME_OF:
             drawn[f"against-{solver}.svg"] = plots.against_peer(peers, solver)
+    if sign:
+        named["sign"] = f"{sign.origin()}\n\n{tables.sign(sign)}"
     if patterns:
         named["patterns"] = f"{patterns.origin()}\n\n{tables.patterns(patterns)}"
     if walk:
@@ -77,7 +82,7 @@ def put(text, name, table):
 
 def main():
     given = arguments()
-    named, drawn = made(*map(record, (given.measured, given.peers, given.patterns, given.walk)))
+    named, drawn = made(*map(record, (given.measured, given.peers, given.sign, given.patterns, given.walk)))
     given.plots.mkdir(parents=True, exist_ok=True)
     for file, svg in drawn.items():
         if svg:

@@ -168,3 +168,44 @@ def patterns(record):
             line.append(mean_ratio(whole, alone))
         lines.append(line)
     return table(heading, lines)
+
+
+def each(row, name):
+    """The times of single signings, which stand in one field."""
+    return [float(time) / 1000 for time in row[name].split()]
+
+
+def ratios(pairs):
+    """Median, p90 and worst of what is set beside another call on the same sheet."""
+    if not pairs:
+        return ["-"] * 3
+    found = [one / other for one, other in pairs]
+    return [digits(value) for value in (median(found), at(found, 0.9), max(found))]
+
+
+def signings(rows, name):
+    """How many signings, their times, and their ratios to the existence question."""
+    pairs = [(time, micros(row, "exists_ns")) for row in rows for time in each(row, name)]
+    times = [one for one, _ in pairs]
+    return [str(len(pairs)), *([time(median(times)), time(max(times))] if times else ["-"] * 2), *ratios(pairs)]
+
+
+def sign(record):
+    """Openings beside the crew call, signings beside the question whether a plan exists, and whole jobs."""
+    heading = ["rules", "jobs", "crew median", "opening median", "worst", "ratio to crew: median", "p90", "worst"]
+    heading.append("existence median")
+    for name in ("granted", "refused"):
+        heading += [name, "median", "worst", "ratio to existence: median", "p90", "worst"]
+    *numbers, (name, every) = by_rules(record)
+    orders = [(f"{name}, {word}", record.of(order=order)) for word, order in
+              (("along the chain", "chain"), ("in random order", "random"))]
+    lines = []
+    for name, rows in [*numbers, (name, every), *orders]:
+        opening, crew = column(rows, "open_ns"), column(rows, "crew_ns")
+        whole = [micros(row, "open_ns") + sum(each(row, "granted_ns") + each(row, "refused_ns")) for row in rows]
+        lines.append([
+            name, str(len(rows)), time(median(crew)), time(median(opening)), time(max(opening)),
+            *ratios(list(zip(opening, crew))), time(median(column(rows, "exists_ns"))),
+            *signings(rows, "granted_ns"), *signings(rows, "refused_ns"), time(median(whole)), time(max(whole)),
+        ])
+    return table([*heading, "whole job median", "worst"], lines)

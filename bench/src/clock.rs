@@ -42,17 +42,24 @@ fn once<T>(run: &mut impl FnMut() -> T) -> (T, Duration) {
 }
 
 pub fn timed<T>(mut run: impl FnMut() -> T) -> (T, Duration) {
+    timed_on(&(), |()| run()).1
+}
+
+/// Of a call that changes what it is lent: each time it gets a copy, made outside the clock. The changed one, the result and
+/// the time.
+pub fn timed_on<S: Clone, T>(lent: &S, mut run: impl FnMut(&mut S) -> T) -> (S, (T, Duration)) {
     let start = Instant::now();
-    let (mut result, mut best) = once(&mut run);
-    for _ in 1..REPEATS {
-        if start.elapsed() > LONG_ENOUGH {
-            break;
+    let mut best: Option<Duration> = None;
+    for repeat in 1.. {
+        let mut changed = lent.clone();
+        let (result, time) = once(&mut || run(&mut changed));
+        let time = best.map_or(time, |best| best.min(time));
+        if repeat == REPEATS || start.elapsed() > LONG_ENOUGH {
+            return (changed, (result, time));
         }
-        let (again, time) = once(&mut run);
-        result = again;
-        best = best.min(time);
+        best = Some(time);
     }
-    (result, best)
+    unreachable!("the repeats have an end")
 }
 
 #[cfg(test)]
@@ -64,5 +71,11 @@ mod tests {
     fn waiting_is_no_work() {
         let (_, time) = timed(|| sleep(Duration::from_millis(5)));
         assert!(time < Duration::from_millis(4), "{time:?}");
+    }
+
+    #[test]
+    fn every_repeat_starts_from_what_is_lent() {
+        let (changed, (result, _)) = timed_on(&vec![7], |list| list.pop());
+        assert_eq!((changed, result), (vec![], Some(7)));
     }
 }

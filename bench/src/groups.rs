@@ -60,7 +60,7 @@ fn hard_group() -> Group {
 }
 
 /// The practice sheets of full size.
-fn full_practice() -> Vec<Group> {
+pub fn full_practice() -> Vec<Group> {
     PRACTICE_RULES.into_iter().map(practice_group).collect()
 }
 

@@ -17,6 +17,7 @@ mod peers;
 mod problem;
 mod randoms;
 mod record;
+mod sign;
 mod table;
 mod worker;
 
@@ -49,6 +50,7 @@ fn run(mut args: Vec<String>) -> io::Result<End> {
         "beside" => beside::order(args).map_or(Ok(End::Misused), |order| beside::run(&order).map(differences)),
         "climb" => climb::order(args).map_or(Ok(End::Misused), |order| climb::run(&order).map(|()| End::Done)),
         "peers" => peers::order(args).map_or(Ok(End::Misused), |order| peers::run(&order).map(differences)),
+        "sign" => sign::order(args).map_or(Ok(End::Misused), |order| sign::run(&order).map(differences)),
         worker::COMMAND => worker::serve().map(|()| End::Done),
         _ => Ok(End::Misused),
     }
@@ -62,7 +64,8 @@ fn main() -> ExitCode {
             ExitCode::FAILURE
         }
         Ok(End::Misused) => {
-            eprintln!("usage: {}", [compare::USAGE, peers::USAGE, beside::USAGE, climb::USAGE].join("\n\n"));
+            let usages = [compare::USAGE, peers::USAGE, beside::USAGE, sign::USAGE, climb::USAGE];
+            eprintln!("usage: {}", usages.join("\n\n"));
             ExitCode::from(2)
         }
         Err(error) => {

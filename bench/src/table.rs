@@ -6,10 +6,11 @@ use crate::measure::Measured;
 /// Which of the times of a sheet.
 type Column = fn(&Measured) -> Nanos;
 
-/// Median, 99th percentile and worst, and how many did not finish.
+/// Median, 90th and 99th percentile and worst, and how many did not finish.
 pub struct Figures {
     pub median: f64,
-    pub high: f64,
+    pub p90: f64,
+    pub p99: f64,
     pub worst: f64,
     pub unfinished: usize,
 }
@@ -21,7 +22,8 @@ pub fn spread(values: impl Iterator<Item = f64>) -> Figures {
     let at = |share: f64| sorted[((sorted.len() as f64 * share).ceil() as usize).clamp(1, sorted.len()) - 1];
     Figures {
         median: at(0.5),
-        high: at(0.99),
+        p90: at(0.9),
+        p99: at(0.99),
         worst: at(1.0),
         unfinished: sorted.iter().filter(|value| value.is_infinite()).count(),
     }
@@ -48,7 +50,7 @@ pub fn heading() -> String {
 fn line(name: &str, search: &str, all: &[Measured], of: Column) -> String {
     let found = figures(all.iter().map(of));
     let plans = all.iter().filter(|one| one.has_plan == Some(true)).count();
-    let times = [found.median, found.high, found.worst].map(|micros| format!("{:>10}", time(micros))).join(" ");
+    let times = [found.median, found.p99, found.worst].map(|micros| format!("{:>10}", time(micros))).join(" ");
     format!("{name:24} {search:6} {:>6} {plans:>5} {times} {:>5}", all.len(), found.unfinished)
 }
 

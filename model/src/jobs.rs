@@ -86,13 +86,11 @@ pub fn good_job(random: &mut Random) -> Job {
     job_of(random, people, steps, rules)
 }
 
-/// A job of which every plan can be tried: few people, classes that several share, permissions tight or loose.
-pub fn small_job(random: &mut Random) -> Job {
-    let steps = random.within(1, 5);
+/// A job of the given size: classes that several people share, permissions tight or loose, few rules.
+fn mixed_job(random: &mut Random, people: usize, steps: usize) -> Job {
     let (shops, benches) = (random.within(1, 3), random.within(1, 5));
     // Each permission is given so many times in four.
     let ease = random.within(1, 4);
-    let people = random.within(1, 6);
     let people = tags(random, people)
         .into_iter()
         .map(|tag| {
@@ -107,6 +105,18 @@ pub fn small_job(random: &mut Random) -> Job {
         steps: tags(random, steps).into_iter().map(step).collect(),
         rules: (0..rules).map(|_| random_rule(random, steps)).collect(),
     }
+}
+
+/// A job of which every plan can be tried.
+pub fn small_job(random: &mut Random) -> Job {
+    let (steps, people) = (random.within(1, 5), random.within(1, 6));
+    mixed_job(random, people, steps)
+}
+
+/// A job with as many people or as many steps as there may be, and so few of the others that every plan can be tried.
+pub fn lopsided_job(random: &mut Random) -> Job {
+    let (people, steps) = [(MOST_PEOPLE, 1), (MOST_PEOPLE, 2), (1, MOST_STEPS), (2, MOST_STEPS)][random.below(4)];
+    mixed_job(random, people, steps)
 }
 
 /// The job's sheet, its cards in some order; now and then in that of the chains.
@@ -128,8 +138,8 @@ mod tests {
     #[test]
     fn small_jobs_are_small_and_readable() {
         let mut random = Random::new(2);
-        for _ in 0..500 {
-            let job = small_job(&mut random);
+        for k in 0..1_000 {
+            let job = if k % 2 == 0 { small_job(&mut random) } else { lopsided_job(&mut random) };
             assert!(is_small(&job));
             assert_eq!(read(&laid(&mut random, &job).bytes), Ok(job));
         }

@@ -1,5 +1,6 @@
-//! What the papers say, in Rust: a model of the card reader, a brute force for both calls, sheets built from jobs, and jobs
-//! by recipe or at random. Nothing here is taken from the library; its calls are bound under the feature `library`.
+//! What the papers say, in Rust: a model of the card reader, a brute force for crews, spare counts and signings, sheets built
+//! from jobs, and jobs by recipe or at random. Nothing here is taken from the library; its calls are bound under the feature
+//! `library`.
 
 pub mod answers;
 pub mod builder;
@@ -14,3 +15,4 @@ pub mod random;
 pub mod reader;
 pub mod recipe;
 pub mod refusal;
+pub mod signing;

@@ -42,15 +42,15 @@ pub fn is_valid(job: &Job, plan: &[usize]) -> bool {
     plan.iter().enumerate().all(may) && job.rules.iter().all(|rule| is_met(job, rule, plan))
 }
 
-/// Completes the plan in the first way that is valid; where there is none, the plan is as it was.
-fn complete(job: &Job, away: &[usize], plan: &mut Plan) -> bool {
+/// Completes the plan in the first way that is valid and suits; where there is none, the plan is as it was.
+fn complete(job: &Job, suits: &impl Fn(usize, usize) -> bool, plan: &mut Plan) -> bool {
     let step = plan.len();
     if step == job.steps.len() {
         return is_valid(job, plan);
     }
-    for person in job.permitted(step).filter(|person| !away.contains(person)) {
+    for person in job.permitted(step).filter(|&person| suits(step, person)) {
         plan.push(person);
-        if complete(job, away, plan) {
+        if complete(job, suits, plan) {
             return true;
         }
         plan.pop();
@@ -58,10 +58,26 @@ fn complete(job: &Job, away: &[usize], plan: &mut Plan) -> bool {
     false
 }
 
+/// The first valid plan, in plan order, whose every step suits the person given to it.
+pub fn first_suiting(job: &Job, suits: impl Fn(usize, usize) -> bool) -> Option<Plan> {
+    let mut plan = vec![];
+    complete(job, &suits, &mut plan).then_some(plan)
+}
+
 /// The first valid plan, in plan order, that does without the people away.
 pub fn first_plan(job: &Job, away: &[usize]) -> Option<Plan> {
-    let mut plan = vec![];
-    complete(job, away, &mut plan).then_some(plan)
+    first_suiting(job, |_, person| !away.contains(&person))
+}
+
+/// Every valid plan, in plan order.
+pub fn all_plans(job: &Job) -> Vec<Plan> {
+    let mut plans = vec![vec![]];
+    for step in 0..job.steps.len() {
+        let longer = |plan: Plan| job.permitted(step).map(move |person| [&plan[..], &[person]].concat());
+        plans = plans.into_iter().flat_map(longer).collect();
+    }
+    plans.retain(|plan| is_valid(job, plan));
+    plans
 }
 
 /// The sets of `size` people: members in crew order, and the set with the earlier person where two first differ first.
@@ -114,7 +130,9 @@ mod tests {
     fn no_earlier_plan_is_valid() {
         let job = job_w();
         let plans = (0..64).map(|k| vec![k / 16, k / 4 % 4, k % 4]);
-        assert_eq!(plans.into_iter().find(|plan| is_valid(&job, plan)), first_plan(&job, &[]));
+        let valid: Vec<Plan> = plans.filter(|plan| is_valid(&job, plan)).collect();
+        assert_eq!(valid.first(), first_plan(&job, &[]).as_ref());
+        assert_eq!(valid, all_plans(&job));
     }
 
     #[test]

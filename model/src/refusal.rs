@@ -13,6 +13,9 @@ pub const TAG_TWICE: u32 = 10;
 pub const BENCH_IN_TWO_SHOPS: u32 = 11;
 pub const LOOSE_CARD: u32 = 12;
 pub const NO_PLAN: u32 = 13;
+pub const UNKNOWN: u32 = 14;
+pub const STEP_SIGNED: u32 = 15;
+pub const NOT_GRANTED: u32 = 16;
 
 #[derive(Clone, Copy, Debug, PartialEq, Eq)]
 pub struct Refusal {

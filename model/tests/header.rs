@@ -4,6 +4,8 @@ use model::answers::{MOST_CAP, MOST_CREW_BYTES, SPARE_BYTES, STEP_BYTES};
 use model::card::{CARD, MOST_BYTES, MOST_CARDS};
 use model::job::{MOST_PEOPLE, MOST_RULES, MOST_STEPS};
 use model::refusal::*;
+use model::signing::{Work, MOST_REFUSALS};
+use std::mem::{align_of, offset_of, size_of};
 
 const TEXT: &str = include_str!("../../include/fulmarinvar.h");
 
@@ -27,6 +29,35 @@ fn sizes_are_the_headers() {
     assert_eq!(stated("MOST_CREW_BYTES"), MOST_CREW_BYTES);
     assert_eq!(stated("SPARE_BYTES"), SPARE_BYTES);
     assert_eq!(stated("MOST_CAP"), MOST_CAP as usize);
+    assert_eq!(stated("MOST_REFUSALS"), MOST_REFUSALS as usize);
+}
+
+/// The fields of the header's struct as they stand, with their types and lengths.
+fn fields_of_the_job() -> Vec<String> {
+    let (_, inside) = TEXT.split_once("struct fulmarinvar_job {").expect("the header has the struct");
+    let (inside, _) = inside.split_once("};").expect("the struct ends");
+    let field = |line: &str| line.split_once(';').map(|(field, _)| field.trim().to_string());
+    inside.lines().filter_map(field).collect()
+}
+
+#[test]
+fn a_job_under_work_is_laid_out_as_the_headers() {
+    let stated = [
+        "uint32_t refusals",
+        "uint32_t sheet_len",
+        "uint8_t sheet[FULMARINVAR_MOST_SHEET_BYTES]",
+        "uint8_t signer[FULMARINVAR_MOST_STEPS]",
+    ];
+    assert_eq!(fields_of_the_job(), stated);
+    let offsets = [
+        offset_of!(Work, refusals),
+        offset_of!(Work, sheet_len),
+        offset_of!(Work, sheet),
+        offset_of!(Work, signer),
+        size_of::<Work>(),
+    ];
+    assert_eq!(offsets, [0, 4, 8, 2264, 2276]);
+    assert_eq!(align_of::<Work>(), 4);
 }
 
 #[test]
@@ -45,6 +76,9 @@ fn refusals_are_the_headers() {
         ("BENCH_IN_TWO_SHOPS", BENCH_IN_TWO_SHOPS),
         ("LOOSE_CARD", LOOSE_CARD),
         ("NO_PLAN", NO_PLAN),
+        ("UNKNOWN", UNKNOWN),
+        ("STEP_SIGNED", STEP_SIGNED),
+        ("NOT_GRANTED", NOT_GRANTED),
     ];
     for (name, number) in named {
         assert_eq!(stated(name), number as usize, "{name}");

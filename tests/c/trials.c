@@ -1,31 +1,17 @@
-/* The paper's sheets, and W cut short and damaged, through both calls: number and every byte compared with the file.
+/* The paper's sheets, and W cut short and damaged, through the calls that plan: number and every byte compared with the
+ * file.
  *
  *   trials FILE            the sheet read-only; both areas end, then begin, at a page that faults
  *   trials --plain FILE    areas from malloc, for valgrind */
-#define _DEFAULT_SOURCE
 #include "area.h"
 #include "cases.h"
 #include "fulmarinvar.h"
+#include "watch.h"
 
 #include <inttypes.h>
-#include <signal.h>
 #include <stdio.h>
 #include <stdlib.h>
 #include <string.h>
-#include <unistd.h>
-
-/* The case under way, for the handler of faults. */
-static char current[MOST_NAME + 1];
-
-static void faulted(int signal) {
-    static const char text[] = "FAILED, a byte outside the areas, or of the sheet: ";
-    (void)signal;
-    ssize_t ignored = write(STDOUT_FILENO, text, sizeof text - 1);
-    ignored = write(STDOUT_FILENO, current, strlen(current));
-    ignored = write(STDOUT_FILENO, "\n", 1);
-    (void)ignored;
-    _exit(1);
-}
 
 /* What byte k of an area holds before the call. */
 static uint8_t fill(size_t k) {
@@ -80,7 +66,7 @@ static int run(const struct trial *trial, enum place place) {
     for (size_t k = 0; k < trial->room; k++) {
         answer.bytes[k] = fill(k);
     }
-    memcpy(current, trial->name, sizeof current);
+    watch_case(trial->name);
     uint32_t number = call(trial, &sheet, &answer);
     int good = as_stated(trial, number, answer.bytes) & sheet_kept(trial, sheet.bytes);
     area_give_back(&sheet);
@@ -95,8 +81,7 @@ int main(int count, char **args) {
         return 2;
     }
     if (!plain) {
-        signal(SIGSEGV, faulted);
-        signal(SIGBUS, faulted);
+        watch_faults();
     }
     struct cases cases = cases_open(args[count - 1]);
     unsigned passed = 0, failed = 0;

@@ -1,7 +1,10 @@
-//! Tests of the reader and of the calls: sheets to try with what the paper says of them, and random sheets.
+//! Tests of the reader and of the calls: sheets to try with what the paper says of them, random sheets, and random histories of
+//! jobs under work.
 
 pub mod calls;
 pub mod cases;
+pub mod numbers;
+pub mod order;
 pub mod records;
 pub mod tally;
 pub mod trials;

@@ -25,6 +25,14 @@ impl Tally {
         *self.met.entry(outcome).or_default() += 1;
     }
 
+    /// What never came up was not tried: each of these outcomes that is missing is a failure.
+    pub fn want(&mut self, outcomes: impl IntoIterator<Item = String>) {
+        for outcome in outcomes.into_iter().filter(|outcome| !self.met.contains_key(outcome)) {
+            println!("FAILED, never met: {outcome}");
+            self.failed += 1;
+        }
+    }
+
     /// Counts a sheet as passed or failed; the first failing ones are saved.
     pub fn enter(&mut self, number: u64, sheet: &[u8], faults: &[String]) {
         if faults.is_empty() {

@@ -37,7 +37,7 @@ fn every_damage_to_one_byte_of_w_is_answered_as_by_the_brute_force() {
 }
 
 #[test]
-fn calls_on_several_threads_do_not_meet() {
+fn calls_on_several_threads_are_independent() {
     let run = |k: usize| {
         let trials = calls::all();
         for trial in trials.iter().cycle().skip(k).take(20 * trials.len()) {

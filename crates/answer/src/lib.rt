@@ -1,4 +1,4 @@
-// What both calls return and write: the number, and the bytes of numbers.
+// What the calls return and write: the number, and the bytes of numbers.
 ghost use mathlib.Core.Path.{_≡_};
 ghost use Prim.Native.Nat.{_<_};
 ghost use Rattle.answer.specs.Number.{refusalNumber, numberOf, Returnable};

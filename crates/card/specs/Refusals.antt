@@ -1,5 +1,5 @@
 -- The refusals by their numbers, in the paper's words. 1 and 2 are the calling program's, 3 to 12 those of whoever wrote the sheet,
--- 13 that of the job itself. Assumes nothing.
+-- 13 that of the job itself, 14 to 16 those of a signing. Assumes nothing.
 use Prim.Native.Nat.{ℕ}
 
 -- "1: answer buffer too short (8 × steps for a crew, 16 for spare). Card 0."
@@ -53,3 +53,15 @@ looseFault = 12
 -- "13: no valid plan with everyone present. Card 0."
 abbrev pub planFault : ℕ
 planFault = 13
+
+-- "It refuses with 14 an unknown step or person": from 14 on the card is 0
+abbrev pub unknownFault : ℕ
+unknownFault = 14
+
+-- "with 15 a signed step"
+abbrev pub signedFault : ℕ
+signedFault = 15
+
+-- "with 16 any other signing not granted"
+abbrev pub ungrantedFault : ℕ
+ungrantedFault = 16

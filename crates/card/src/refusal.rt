@@ -38,3 +38,12 @@ pub const LOOSE_FAULT: u32 = 12;
 
 // The job itself: no valid plan with everyone present.
 pub const PLAN_FAULT: u32 = 13;
+
+// Whoever signs: the step or the person is not on the sheet. From 14 on the card is 0.
+pub const UNKNOWN_FAULT: u32 = 14;
+
+// The step is signed.
+pub const SIGNED_FAULT: u32 = 15;
+
+// No valid plan agrees with this signing and with all granted before.
+pub const UNGRANTED_FAULT: u32 = 16;

@@ -1,7 +1,7 @@
 -- The crew call, return by return. a is the reader's answer on the sheet s. Assumes nothing.
 use mathlib.Core.Bool.{Bool, true, false}
 use mathlib.Core.List.{List, [], _∷_, _++_}
-use mathlib.Core.Path.{_≡_, refl, sym, _∙_, ap, subst}
+use mathlib.Core.Path.{_≡_, sym, _∙_, ap}
 use Prim.Native.Nat.{ℕ, _+_, _*_, _<_, _≤_}
 use native.Mathlib.Omega.{arith}
 use lib.ListN.{length, getD, drop}
@@ -16,7 +16,7 @@ use Rattle.sheet.specs.declared.SheetJob as sheet
 use Rattle.sheet.specs.declared.Sheet.{Sheet}
 use Rattle.sheet.specs.declared.Reading.{Reading}
 use Rattle.sheet.specs.declared.Reading.the-variants.{Readable, Refused}
-use Rattle.sheet.proofs.Readable.{read-sheet-job}
+use Rattle.answer.proofs.WasRead.{was-refused, was-readable}
 use Rattle.workflow.specs.First.{found, nothing, planOf, listOf, firstPlan}
 use Rattle.workflow.proofs.First.{firstPlan-found}
 use Rattle.workflow.proofs.Lists.{planOf-listOf}
@@ -27,11 +27,6 @@ use Rattle.answer.specs.Bytes.{Outcome, written}
 use Rattle.crew.specs.Crew.{crewAnswer, crewOf}
 use Rattle.answer.specs.Number.{refusalNumber}
 use Rattle.crew.proofs.Read.{crew-read, crew-refused, crew-short, crew-none, crew-found, tags-cong}
-
--- an answer of the second kind is a refusal
-refusal-of : (P : Reading → Type 0) (r : Reading) → OneOf (1 ∷ []) (tagOf the-type r) → ((f c : ℕ) → P (Refused f c)) → P r
-refusal-of P (Readable p n r) k h = absurd (omega arith)
-refusal-of P (Refused f c) k h = h f c
 
 -- what a return has to show: the number, and every byte
 abbrev Returns : List ℕ → List ℕ → ℕ → List ℕ → Type 0
@@ -46,16 +41,13 @@ module _ (s : List ℕ) (a : Sheet) (e : a ≡ sheetOf s) where
 
   pub returns-refusal : (buffer : List ℕ) → OneOf (1 ∷ []) (tagOf the-type (a .reading)) → (n : ℕ) → n ≡ numberOf (a .reading) → Returns s buffer n buffer
   returns-refusal buffer k n d =
-      refusal-of (λ (r : Reading). a .reading ≡ r → n ≡ numberOf r → Returns s buffer n buffer) (a .reading) k
-      (λ f c q m.
-      let o = returns-outcome s buffer _ (crew-refused s buffer f c (read-as (Refused f c) q)) in
-      (m ∙ o .0, o .1)) refl d
+      let r = was-refused s a e k in
+      let o = returns-outcome s buffer _ (crew-refused s buffer (r .0) (r .1) (read-as (Refused (r .0) (r .1)) (r .2))) in
+      (d ∙ ap numberOf (r .2) ∙ o .0, o .1)
 
   module _ (people steps rules : ℕ) (d : a .reading ≡ Readable people steps rules) where
     pub readable : ReadableJob people steps rules (a .job)
-    readable =
-        subst (ReadableJob people steps rules) (sym (ap (λ (x : Sheet). x .job) e))
-        (read-sheet-job s people steps rules (read-as (Readable people steps rules) d) .readable)
+    readable = was-readable s a e people steps rules d
 
     crew-is : (buffer : List ℕ) → crewAnswer s buffer ≡ crewOf people steps rules (a .job) buffer
     crew-is buffer =

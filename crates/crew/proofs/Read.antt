@@ -5,11 +5,10 @@ use Prim.Native.Nat.{ℕ, zero, suc, _*_, _<_, _≤_}
 use native.Mathlib.Omega.{arith}
 use lib.ListN.{length, getD, drop}
 use borrow.Author.Tests.{lt-ltb, le-ltb}
-use Rattle.sheet.specs.Answer.{answer, sheetOf, jobOf}
-use Rattle.sheet.specs.Read.{Read, job, fault, readSheet}
+use Rattle.sheet.specs.Answer.{sheetOf}
 use Rattle.sheet.specs.declared.SheetJob as sheet
 use Rattle.sheet.specs.declared.Reading.the-variants.{Readable, Refused}
-use Rattle.sheet.proofs.Readable.{read-sheet-job}
+use Rattle.answer.proofs.WasRead.{read-fault, was-job}
 use Rattle.workflow.specs.First.{found, nothing, firstPlan}
 use Rattle.instance.specs.Instance.{instanceOf, mayOf, crewTags}
 use Rattle.answer.specs.Bytes.{refused, written}
@@ -21,21 +20,12 @@ module _ (s buffer : List ℕ) where
   pub crew-read : (people steps rules : ℕ) → sheetOf s .reading ≡ Readable people steps rules → crewAnswer s buffer ≡ crewOf people steps rules (sheetOf s .job) buffer
   unfolding crewRead
   crew-read people steps rules e =
-      let r = read-sheet-job s people steps rules e in
-      ap (crewRead s buffer) (r .read)
-      ∙ ap (λ (n : ℕ). crewOf n (length (r .step-cards)) (length (r .rule-cards)) (jobOf s (r .person-cards) (r .step-cards) (r .rule-cards)) buffer) (r .people-count)
-      ∙ ap (λ (n : ℕ). crewOf people n (length (r .rule-cards)) (jobOf s (r .person-cards) (r .step-cards) (r .rule-cards)) buffer) (r .steps-count)
-      ∙ ap (λ (n : ℕ). crewOf people steps n (jobOf s (r .person-cards) (r .step-cards) (r .rule-cards)) buffer) (r .rules-count)
-      ∙ ap (λ (j : sheet.SheetJob). crewOf people steps rules j buffer) (sym (r .filled))
+      was-job s (sheetOf s) refl people steps rules e (λ (p n r : ℕ) (j : sheet.SheetJob). crewOf p n r j buffer) (crewRead s buffer) (λ p t r. refl)
 
   -- a sheet that was refused
   pub crew-refused : (f c : ℕ) → sheetOf s .reading ≡ Refused f c → crewAnswer s buffer ≡ refused f c buffer
-  unfolding crewRead answer
-  crew-refused f c e = go (readSheet s) e
-    where
-      go : (r : Read) → answer s r .reading ≡ Refused f c → crewRead s buffer r ≡ refused f c buffer
-      go (job p t u) e = let z : _≡_ {A = ℕ} 0 1 = cc in absurd (omega arith)
-      go (fault g d) e = let x : g ≡ f = cc in let y : d ≡ c = cc in ap₂ (λ (a b : ℕ). refused a b buffer) x y
+  unfolding crewRead
+  crew-refused f c e = ap (crewRead s buffer) (read-fault s f c e)
 
 -- the cases of a job with these counts
 module _ (people steps rules : ℕ) (j : sheet.SheetJob) (buffer : List ℕ) where

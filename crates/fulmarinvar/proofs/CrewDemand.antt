@@ -14,13 +14,13 @@ use Rattle.sheet.specs.Read.{Read, job, fault, readSheet}
 use Rattle.workflow.specs.Problem.{Job, May, Satisfiable}
 use Rattle.workflow.specs.First.{Found, found, listOf, planOf, firstPlan}
 use Rattle.workflow.proofs.First.{found-cases, firstPlan-found, firstPlan-nothing, first-plan-given, satisfiable-or-not}
-use Rattle.instance.specs.Instance.{crewTags}
+use Rattle.instance.specs.Instance.{instanceIn, mayDo, crewTags}
 use Rattle.answer.specs.Bytes.{Outcome, refused, written}
 use Rattle.crew.specs.Crew.{crewAnswer, crewRead, crewOf}
 use Rattle.crew.proofs.Read.{crew-short, crew-none, crew-found}
 use Rattle.fulmarinvar.specs.Promise.{CrewPromise}
 use Rattle.fulmarinvar.specs.Demands as demands
-use Rattle.fulmarinvar.specs.Demands.{ReadToAnEnd, instanceIn, mayDo, crewBytes, CrewExactly}
+use Rattle.fulmarinvar.specs.Demands.{ReadToAnEnd, crewBytes, CrewExactly}
 use Rattle.fulmarinvar.proofs.Ending.{own-refusal, reader-refusal, refused-ends, answered-ends}
 
 module _ (s buffer : List ℕ) (number : ℕ) (left : List ℕ) (p : CrewPromise s buffer number left) where

@@ -1,7 +1,12 @@
+pub mod Thin
 pub mod Trials
+pub mod Day
 pub mod Tags
 pub mod Ending
 pub mod CrewDemand
 pub mod SpareDemand
 pub mod SheetDemand
+pub mod Stands
+pub mod OpenDemand
+pub mod SignDemand
 pub mod ReadBack

@@ -18,9 +18,10 @@ use Rattle.resiliency.specs.Count.{Spare, unsatisfiable, capped, broken, spare,
 use Rattle.resiliency.specs.Spare.{spareBytes, countBytes, spareAnswer}
 use Rattle.resiliency.proofs.Laws.{resilient-present, spare-is-spare, isSpare-largest}
 use Rattle.resiliency.proofs.Answered.{cap-refused, sheet-refused, buffer-short, call-answered}
+use Rattle.instance.specs.Instance.{instanceIn, mayDo}
 use Rattle.fulmarinvar.specs.Promise.{SparePromise}
 use Rattle.fulmarinvar.specs.Demands as demands
-use Rattle.fulmarinvar.specs.Demands.{ReadToAnEnd, instanceIn, mayDo, spareBytesOf, CountWritten, SpareExactly}
+use Rattle.fulmarinvar.specs.Demands.{ReadToAnEnd, spareBytesOf, CountWritten, SpareExactly}
 use Rattle.fulmarinvar.proofs.Ending.{own-refusal, reader-refusal, refused-ends, answered-ends}
 
 module _ (cap : ℕ) (s buffer : List ℕ) (number : ℕ) (left : List ℕ) (p : SparePromise cap s buffer number left) where

@@ -1,4 +1,6 @@
 pub mod Promise
+pub mod History
 pub mod Demands
 pub mod Sheets
 pub mod Trials
+pub mod Day

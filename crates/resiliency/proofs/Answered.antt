@@ -5,14 +5,14 @@ use Prim.Native.Nat.{ℕ, suc, _≤_, _<_}
 use lib.ListN.{length}
 use borrow.Author.Tests.{lt-ltb, le-ltb}
 use native.Mathlib.Omega.{arith}
-use Rattle.sheet.specs.Answer.{jobOf, answer, sheetOf}
+use Rattle.sheet.specs.Answer.{jobOf, sheetOf}
 use Rattle.answer.specs.Number.{refusalNumber, numberOf}
-use Rattle.sheet.specs.Readable.{ReadableJob, ReadSheet}
+use Rattle.sheet.specs.Readable.{ReadableJob}
 use Rattle.sheet.specs.declared.SheetJob as sheet
 use Rattle.sheet.specs.declared.Sheet.{Sheet}
 use Rattle.sheet.specs.declared.Reading.the-variants.{Readable, Refused}
-use Rattle.sheet.proofs.Readable.{read-sheet-job}
-use Rattle.sheet.specs.Read.{Read, job, fault, readSheet}
+use Rattle.answer.proofs.WasRead.{read-fault, was-read, was-readable, was-job}
+use Rattle.sheet.specs.Read.{job, fault, readSheet}
 use Rattle.workflow.specs.Problem.{Job, May, Satisfiable}
 use Rattle.instance.specs.Instance.{instanceOf, mayOf}
 use Rattle.answer.specs.Bytes.{Outcome, refused}
@@ -80,16 +80,6 @@ module _ (cap : ℕ) (s buffer : List ℕ) where
 left-same : {o o′ : Outcome} {n : ℕ} {bs : List ℕ} → o ≡ o′ → Left o′ n bs → Left o n bs
 left-same e h = rw e h
 
-answer-refusal : (s : List ℕ) (r : Read) (f c : ℕ) → answer s r .reading ≡ Refused f c → r ≡ fault f c
-unfolding answer
-answer-refusal s (job people steps rules) f c e = let z : _≡_ {A = ℕ} 0 1 = cc in absurd (omega arith)
-answer-refusal s (fault g d) f c e = cc
-
-spare-counts : (cap : ℕ) (s buffer people steps rules : List ℕ) (p n u : ℕ) (j : sheet.SheetJob) → length people ≡ p → length steps ≡ n → length rules ≡ u
-    → j ≡ jobOf s people steps rules → readSheet s ≡ job people steps rules → spareRead cap s buffer (readSheet s) ≡ spareOf cap p n u j buffer
-unfolding spareRead
-spare-counts cap s buffer people steps rules p n u j a b c d e = rw e (cc)
-
 module _ (cap : ℕ) (s buffer : List ℕ) where
   pub left-cap : (m : ℕ) → m ≡ refusalNumber capFault 0 → capLimit < cap → Left (spareAnswer cap s buffer) m buffer
   left-cap m e l = left-same (cap-refused cap s buffer l) (record { number = e; bytes = refl })
@@ -97,27 +87,23 @@ module _ (cap : ℕ) (s buffer : List ℕ) where
   pub left-refused : (a : Sheet) → a ≡ sheetOf s → cap ≤ capLimit → (f c n : ℕ) → a .reading ≡ Refused f c → n ≡ numberOf (a .reading)
       → Left (spareAnswer cap s buffer) n buffer
   left-refused a e l f c n d h =
-      left-same (sheet-refused cap s buffer f c l (answer-refusal s (readSheet s) f c (sym (ap (λ (x : Sheet). x .reading) e) ∙ d)))
+      left-same (sheet-refused cap s buffer f c l (read-fault s f c (sym (ap (λ (x : Sheet). x .reading) e) ∙ d)))
       (record { number = h ∙ ap numberOf d; bytes = refl })
 
   module _ (a : Sheet) (e : a ≡ sheetOf s) (l : cap ≤ capLimit) (p n u : ℕ) (d : a .reading ≡ Readable p n u) where
-    sheet-read : ReadSheet s p n u (sheetOf s .job)
-    sheet-read = read-sheet-job s p n u (sym (ap (λ (x : Sheet). x .reading) e) ∙ d)
-
     pub job-readable : ReadableJob p n u (a .job)
-    job-readable = subst (λ (x : Sheet). ReadableJob p n u (x .job)) (sym e) (sheet-read .readable)
+    job-readable = was-readable s a e p n u d
 
     pub left-short : (m : ℕ) → m ≡ refusalNumber shortFault 0 → length buffer < spareSize → Left (spareAnswer cap s buffer) m buffer
     left-short m q h =
-        let w = sheet-read in
+        let w = was-read s a e p n u d in
         left-same (buffer-short cap s buffer (w .person-cards) (w .step-cards) (w .rule-cards) l (w .read) h) (record { number = q; bytes = refl })
 
     spare-read : spareAnswer cap s buffer ≡ spareOf cap p n u (a .job) buffer
+    unfolding spareRead
     spare-read =
-        let w = sheet-read in
         cap-taken cap s buffer l
-        ∙ spare-counts cap s buffer (w .person-cards) (w .step-cards) (w .rule-cards) p n u (a .job) (w .people-count) (w .steps-count) (w .rules-count)
-        (ap (λ (x : Sheet). x .job) e ∙ w .filled) (w .read)
+        ∙ was-job s a e p n u d (λ (k t r : ℕ) (j : sheet.SheetJob). spareOf cap k t r j buffer) (spareRead cap s buffer) (λ x y z. refl)
 
     pub left-count : spareSize ≤ length buffer → (r : Spare) (m : ℕ) (bs : List ℕ) → r ≡ spare (instanceOf p n u (a .job)) (mayOf (a .job)) cap
         → Left (spareBytes (a .job .«person_tag») cap buffer r) m bs → Left (spareAnswer cap s buffer) m bs

@@ -1,0 +1,95 @@
+/* Makes sheets card by card, and sheet W, on which the examples work. */
+#ifndef SHEET_H
+#define SHEET_H
+
+#include "fulmarinvar.h"
+
+#include <string.h>
+
+enum { HEADER = 1, PERSON = 2, STEP = 3, RULE = 4 };
+enum { SAME = 1, DIFFERENT = 2 };
+enum { BY_SHOP = 1, BY_BENCH = 2, BY_PERSON = 3 };
+
+/* A sheet in the making. Cards lie one after the other; each kind has a chain of its own. */
+struct sheet {
+    uint8_t bytes[FULMARINVAR_MOST_SHEET_BYTES];
+    uint16_t cards;
+    uint16_t last[RULE + 1];
+};
+
+static inline void put16(uint8_t *at, uint16_t value) {
+    at[0] = (uint8_t)value;
+    at[1] = (uint8_t)(value >> 8);
+}
+
+static inline void put32(uint8_t *at, uint32_t value) {
+    put16(at, (uint16_t)value);
+    put16(at + 2, (uint16_t)(value >> 16));
+}
+
+static inline uint8_t *card(struct sheet *sheet, uint16_t index) {
+    return sheet->bytes + FULMARINVAR_CARD_BYTES * index;
+}
+
+static inline void begin(struct sheet *sheet) {
+    memset(sheet, 0, sizeof *sheet);
+    sheet->cards = 1;
+    card(sheet, 0)[0] = HEADER;
+    card(sheet, 0)[1] = 1;
+    put16(card(sheet, 0) + 10, 1);
+}
+
+/* A new card at the end of its chain: the header names the first, and each card the one after it. */
+static inline uint8_t *add(struct sheet *sheet, uint8_t kind) {
+    uint16_t index = sheet->cards++;
+    uint16_t before = sheet->last[kind];
+    put16(before ? card(sheet, before) + 2 : card(sheet, 0) + 2 * kind, index);
+    put16(card(sheet, 0) + 10, sheet->cards);
+    sheet->last[kind] = index;
+    card(sheet, index)[0] = kind;
+    return card(sheet, index);
+}
+
+/* Bit j of `may` is set where step j is permitted. */
+static inline void person(struct sheet *sheet, uint32_t tag, uint16_t shop, uint16_t bench, uint16_t may) {
+    uint8_t *at = add(sheet, PERSON);
+    put32(at + 4, tag);
+    put16(at + 8, shop);
+    put16(at + 10, bench);
+    put16(at + 12, may);
+}
+
+static inline void step(struct sheet *sheet, uint32_t tag) {
+    put32(add(sheet, STEP) + 4, tag);
+}
+
+static inline void rule(struct sheet *sheet, uint8_t kind, uint8_t level, uint8_t limit, uint16_t scope) {
+    uint8_t *at = add(sheet, RULE);
+    at[1] = kind;
+    at[4] = level;
+    at[5] = limit;
+    put16(at + 6, scope);
+}
+
+/* The bytes of the cards laid so far. */
+static inline size_t sheet_length(const struct sheet *sheet) {
+    return (size_t)FULMARINVAR_CARD_BYTES * sheet->cards;
+}
+
+/* Sheet W of the paper: 10 and 20 at the same bench, 20 and 30 in the same shop and by different people. */
+static inline void sheet_w(struct sheet *sheet) {
+    const uint16_t first = 1, second = 2, third = 4;
+    begin(sheet);
+    person(sheet, 101, 1, 1, first | second | third);
+    person(sheet, 102, 1, 1, first | second | third);
+    person(sheet, 103, 1, 2, third);
+    person(sheet, 104, 2, 3, third);
+    step(sheet, 10);
+    step(sheet, 20);
+    step(sheet, 30);
+    rule(sheet, SAME, BY_BENCH, 0, first | second);
+    rule(sheet, SAME, BY_SHOP, 0, second | third);
+    rule(sheet, DIFFERENT, BY_PERSON, 0, second | third);
+}
+
+#endif
