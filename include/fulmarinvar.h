@@ -31,7 +31,7 @@ extern "C" {
 /* Where the count of refused signings stops. */
 #define FULMARINVAR_MOST_REFUSALS 1000000
 
-/* The returned number is 0, or refusal * 256 + card. */
+/* The returned number is 0, or refusal * 256 + card: FULMARINVAR_REFUSAL(number) is one of the names below. */
 #define FULMARINVAR_REFUSAL(number) ((uint32_t)(number) / 256u)
 #define FULMARINVAR_CARD(number) ((uint32_t)(number) % 256u)
 
@@ -69,8 +69,9 @@ enum fulmarinvar_refusal {
 };
 
 /* In every call `sheet` is the start of `sheet_len` readable bytes and `answer` of `answer_len` writable ones. All
- * pointers are real, also where a length is 0, and the areas lent do not overlap, a job among them. The sheet is never
- * written to; a refusal leaves every byte of the answer area as it was. */
+ * pointers are real and aligned, also where a length is 0, and no two areas lent to a call overlap: the sheet that a
+ * job holds is copied out before it is lent with that job. The sheet is never written to; a refusal leaves every byte of
+ * the answer area as it was. */
 
 /* The first valid plan. On 0, for step j of the step chain, counted from 0:
  *   bytes 8 * j to 8 * j + 3       the step's tag, low byte first
@@ -87,12 +88,13 @@ uint32_t fulmarinvar_crew(const uint8_t *sheet, size_t sheet_len, uint8_t *answe
  * Bytes from 16 on keep their values. */
 uint32_t fulmarinvar_spare(const uint8_t *sheet, size_t sheet_len, uint8_t *answer, size_t answer_len, uint32_t cap);
 
-/* A job under work: 2,276 bytes without padding or pointers, which the caller may copy, move and store. All zero:
- * never opened. What is said of a job holds where it was all zero, or a call has opened it, and its calls alone have
- * changed it since; on any other memory a call ends too, and writes inside the struct only. */
+/* A job under work: 2,276 bytes without padding or pointers, which the caller may copy, move and store, for this
+ * edition of the library and this byte order. All zero: never opened. What is said of a job holds where it was all
+ * zero, or a call has opened it, and its calls alone have changed it since; on any other memory a call ends too, and
+ * writes inside the struct only. */
 struct fulmarinvar_job {
     uint32_t refusals;                           /* refused signings since the last opening that returned 0 */
-    uint32_t sheet_len;                          /* the bytes of the sheet held */
+    uint32_t sheet_len;                          /* how many bytes the sheet held has */
     uint8_t sheet[FULMARINVAR_MOST_SHEET_BYTES]; /* the sheet, zeros after its end */
     uint8_t signer[FULMARINVAR_MOST_STEPS];      /* who signed each step, counted from 1 in crew order; 0: open */
 };

@@ -17,7 +17,7 @@ use Rattle.sheet.specs.declared.Sheet.{Sheet}
 use Rattle.sheet.specs.declared.Reading.{Reading}
 use Rattle.sheet.specs.declared.Reading.the-variants.{Readable, Refused}
 use Rattle.answer.proofs.WasRead.{was-refused, was-readable}
-use Rattle.workflow.specs.First.{found, nothing, planOf, listOf, firstPlan}
+use Rattle.workflow.specs.First.{found, planOf, listOf, firstPlan}
 use Rattle.workflow.proofs.First.{firstPlan-found}
 use Rattle.workflow.proofs.Lists.{planOf-listOf}
 use Rattle.pattern.specs.Tables.{planIn}

@@ -2,11 +2,10 @@
 use mathlib.Core.List.{List}
 use mathlib.Core.Logic.{inl, inr}
 use mathlib.Core.Path.{_≡_, refl, sym, _∙_, ap, subst}
-use Prim.Native.Nat.{ℕ, _+_, _*_, _≤_}
+use Prim.Native.Nat.{ℕ, _+_, _*_}
 use native.Mathlib.Omega.{arith}
-use lib.ListN.{length}
 use Rattle.sheet.proofs.Refusals.{refusal-is-fault, fault-range}
-use Rattle.sheet.specs.Read.{job, fault, readSheet}
+use Rattle.sheet.specs.Read.{job}
 use Rattle.workflow.specs.Problem.{Satisfiable}
 use Rattle.instance.specs.Instance.{instanceIn, mayDo}
 use Rattle.signing.proofs.OpenCases.{open-cases}
@@ -15,30 +14,18 @@ use Rattle.signing.specs.Open.{openAnswer}
 use Rattle.signing.specs.State.{neverOpened, opened}
 use Rattle.signing.specs.declared.Answered.{Answered}
 use Rattle.signing.specs.declared.JobState.{JobState}
-use Rattle.fulmarinvar.specs.Demands as demands
-use Rattle.fulmarinvar.specs.Demands.{Opens, NumberedRefusal}
+use Rattle.fulmarinvar.specs.Signing as demands
+use Rattle.fulmarinvar.specs.Demands.{NumberedRefusal}
+use Rattle.fulmarinvar.specs.Signing.{Opens}
 use Rattle.fulmarinvar.specs.Promise.{OpenPromise}
 use Rattle.fulmarinvar.proofs.CrewDemand.{crew-demand, crew-refuses}
 use Rattle.fulmarinvar.proofs.Ending.{own-refusal, reader-refusal}
+use Rattle.fulmarinvar.proofs.OneReading.{same-cards, not-refused, same-refusal}
 use Rattle.fulmarinvar.proofs.Stands.{few-steps}
 
--- a sheet is read in one way
-read-one : (s people steps rules : List ℕ) (f c : ℕ) → readSheet s ≡ job people steps rules → readSheet s ≡ fault f c → ⊥
-read-one s people steps rules f c a b = clash (sym a ∙ b)
-  where
-    clash : job people steps rules ≡ fault f c → ⊥
-    clash e = let z : _≡_ {A = ℕ} 0 1 = cc in absurd (omega arith)
-
-same-plan : (s p t r people steps rules : List ℕ) → readSheet s ≡ job p t r → readSheet s ≡ job people steps rules
-    → Satisfiable (instanceIn s p t r) (mayDo s p t r) → Satisfiable (instanceIn s people steps rules) (mayDo s people steps rules)
-same-plan s p t r people steps rules a b w = go (sym a ∙ b)
-  where
-    go : job p t r ≡ job people steps rules → Satisfiable (instanceIn s people steps rules) (mayDo s people steps rules)
-    go e =
-        let x : p ≡ people = cc in let y : t ≡ steps = cc in let z : r ≡ rules = cc in
-        subst (λ (l : List ℕ). Satisfiable (instanceIn s l steps rules) (mayDo s l steps rules)) x
-        (subst (λ (l : List ℕ). Satisfiable (instanceIn s p l rules) (mayDo s p l rules)) y
-        (subst (λ (l : List ℕ). Satisfiable (instanceIn s p t l) (mayDo s p t l)) z w))
+-- the plan of one reading is that of any
+abbrev Planned : List ℕ → List ℕ → List ℕ → List ℕ → Type 0
+Planned s people steps rules = Satisfiable (instanceIn s people steps rules) (mayDo s people steps rules)
 
 module _ (s : List ℕ) (j : JobState) (number : ℕ) (left : JobState) (o : OpenPromise j s number left) where
   case-opens : OpenCase s j (openAnswer j s) → Opens s j number left
@@ -48,7 +35,9 @@ module _ (s : List ℕ) (j : JobState) (number : ℕ) (left : JobState) (o : Ope
       record {
         as-crew = λ buffer m bytes l w. n ∙ sym (crew-refuses s buffer m bytes w .passed-up f c d);
         outcome = inr (subst (NumberedRefusal s) (sym n) x, omega (arith, n, fault-range s f c (refusal-is-fault s f c d) .0));
-        planned = λ people steps rules r. absurd (read-one s people steps rules f c r d);
+        passed-up = λ g b r. n ∙ same-refusal s d r;
+        planned = λ people steps rules r. absurd (not-refused s r f c d);
+        unplanned = λ people steps rules r. absurd (not-refused s r f c d);
         untouched = λ z. o .job-left ∙ ap (λ (y : Answered). y .job) e;
         cleared = λ z. absurd (omega (arith, n, x .is, x .from));
       }
@@ -61,7 +50,9 @@ module _ (s : List ℕ) (j : JobState) (number : ℕ) (left : JobState) (o : Ope
             let c = crew-demand s buffer people steps rules m bytes w d (omega arith) .unplanned .1 fails in
             omega arith;
         outcome = inr (subst (NumberedRefusal s) (sym n) x, omega arith);
-        planned = λ p t r q. (λ z. absurd (omega arith), λ w. absurd (fails (same-plan s p t r people steps rules q d w)));
+        passed-up = λ f c r. absurd (not-refused s d f c r);
+        planned = λ p t r q. (λ z. absurd (omega arith), λ w. absurd (fails (same-cards s q d (Planned s) w)));
+        unplanned = λ p t r q. (λ z w. fails (same-cards s q d (Planned s) w), λ w. omega arith);
         untouched = λ z. o .job-left ∙ ap (λ (y : Answered). y .job) e;
         cleared = λ z. absurd (omega arith);
       }
@@ -73,7 +64,9 @@ module _ (s : List ℕ) (j : JobState) (number : ℕ) (left : JobState) (o : Ope
             let c = crew-demand s buffer people steps rules m bytes w d (omega arith) .planned .1 plan in
             omega arith;
         outcome = inl n;
-        planned = λ p t r q. (λ z. same-plan s people steps rules p t r d q plan, λ w. n);
+        passed-up = λ f c r. absurd (not-refused s d f c r);
+        planned = λ p t r q. (λ z. same-cards s d q (Planned s) plan, λ w. n);
+        unplanned = λ p t r q. (λ z. absurd (omega arith), λ w. absurd (w (same-cards s d q (Planned s) plan)));
         untouched = λ z. absurd (z n);
         cleared = λ z. o .job-left ∙ ap (λ (y : Answered). y .job) e;
       }
@@ -88,8 +81,8 @@ opens-any s i j (unreadable f c d e) x z =
     let n : 0 ≡ f * 256 + c = z ∙ ap (λ (y : Answered). y .number) e in
     absurd (omega (arith, n, fault-range s f c (refusal-is-fault s f c d) .0))
 opens-any s i j (planless people steps rules d fails e) x z = let n : 0 ≡ 13 * 256 + 0 = z ∙ ap (λ (y : Answered). y .number) e in absurd (omega arith)
-opens-any s i j (done people steps rules d plan e) (unreadable f c q x) z = absurd (read-one s people steps rules f c d q)
-opens-any s i j (done people steps rules d plan e) (planless p t r q fails x) z = absurd (fails (same-plan s people steps rules p t r d q plan))
+opens-any s i j (done people steps rules d plan e) (unreadable f c q x) z = absurd (not-refused s d f c q)
+opens-any s i j (done people steps rules d plan e) (planless p t r q fails x) z = absurd (fails (same-cards s d q (Planned s) plan))
 opens-any s i j (done people steps rules d plan e) (done p t r q w x) z = x
 
 pub anew-demand : demands.AnewDemand

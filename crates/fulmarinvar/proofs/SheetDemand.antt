@@ -7,7 +7,6 @@ use Rattle.bits.specs.Word.{hasBit}
 use Rattle.card.specs.Fields.{tagOf, shopOf, benchOf, permittedOf, ruleKindOf, levelOf, limitOf, scopeOf}
 use Rattle.sheet.specs.Answer.{jobOf}
 use Rattle.sheet.specs.Faults.{cardsIn}
-use Rattle.sheet.specs.Read.{job}
 use Rattle.sheet.proofs.Fill.{getD-table}
 use Rattle.sheet.proofs.NoFault.{readable-no-fault, no-fault-readable}
 use Rattle.sheet.proofs.Chains.{chains}

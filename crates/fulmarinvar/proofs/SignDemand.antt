@@ -1,9 +1,9 @@
 -- What is asked of signing follows from the promises, of a job changed by its calls alone. Assumes nothing.
 use mathlib.Core.Bool.{Bool, true, cond}
 use mathlib.Core.List.{List, [], _∷_}
-use mathlib.Core.Logic.{_↔_, _⊎_, inl, inr, ⊎-elim}
+use mathlib.Core.Logic.{_⊎_, inl, inr, ⊎-elim}
 use mathlib.Core.Path.{_≡_, refl, sym, _∙_, ap, ap₂, subst}
-use Prim.Native.Nat.{ℕ, suc, _+_, _*_, _≤_, _<_}
+use Prim.Native.Nat.{ℕ, suc, _+_, _*_, _<_}
 use native.Mathlib.Omega.{arith}
 use lib.Dec.{eqb}
 use lib.ListN.{length, getD, set}
@@ -18,20 +18,16 @@ use Rattle.signing.proofs.Cases.{sign-cases, sign-nothing, sign-unreadable}
 use Rattle.signing.specs.Bound.{isOpen}
 use Rattle.signing.specs.Cases.{Names, CanFinish, SignCase, unknown, signed, ungranted, given}
 use Rattle.signing.specs.Sign.{refusedSigning, granted, signAnswer}
-use Rattle.signing.specs.State.{held}
+use Rattle.signing.specs.State.{withCount, held}
 use Rattle.signing.specs.declared.Answered.{Answered}
 use Rattle.signing.specs.declared.JobState.{JobState}
-use Rattle.fulmarinvar.specs.Demands as demands
-use Rattle.fulmarinvar.specs.Demands.{SignedAs, Agrees, Signs}
+use Rattle.fulmarinvar.specs.Signing as demands
+use Rattle.fulmarinvar.specs.Signing.{SignedAs, Agrees, Signs}
 use Rattle.fulmarinvar.specs.History.{Event, opening, signing, History, NeverOpened, lastOpened, Granted, Open}
 use Rattle.fulmarinvar.specs.Promise.{SignPromise}
+use Rattle.fulmarinvar.proofs.OneReading.{same-cards, nothing-unreadable}
 use Rattle.fulmarinvar.proofs.SheetDemand.{jobs-of-cards}
-use Rattle.fulmarinvar.proofs.Stands.{Kept, Standing, closed, working, Stands, stands, few-steps, same-step, same-person}
-
--- nothing is no readable sheet
-nothing-unreadable : {people steps rules : List ℕ} → readSheet [] ≡ job people steps rules → ⊥
-unfolding readSheet
-nothing-unreadable e = let z : _≡_ {A = ℕ} 0 1 = cc in absurd (omega arith)
+use Rattle.fulmarinvar.proofs.Stands.{Kept, Standing, never, working, stands, few-steps, same-step, same-person}
 
 -- no opening has succeeded
 never-last : (h : List Event) → NeverOpened h → lastOpened h ≡ []
@@ -51,7 +47,7 @@ never-opened-demand h j w o =
     }
   where
     go : Standing h (j .signer) → lastOpened h ≡ [] → (a b : ℕ) → Granted h a b → ⊥
-    go (closed x y f) e = f
+    go (never x y f) e = f
     go (working people steps rules r k) e = absurd (nothing-unreadable (sym (ap readSheet e) ∙ r))
 
 pub opened-demand : demands.OpenedDemand
@@ -60,7 +56,7 @@ opened-demand h j w = go (stands h j w .standing)
     go : Standing h (j .signer) → NeverOpened h
         ⊎ ((people : List ℕ) × (steps : List ℕ) × (rules : List ℕ) × (readSheet (lastOpened h) ≡ job people steps rules)
         × Satisfiable (instanceIn (lastOpened h) people steps rules) (mayDo (lastOpened h) people steps rules))
-    go (closed o e f) = inl o
+    go (never o e f) = inl o
     go (working people steps rules r k) = inr (people, steps, rules, r, (k .finish .0, k .finish .1))
 
 pub count-demand : demands.CountDemand
@@ -78,15 +74,9 @@ module _ (h : List Event) (j : JobState) (people steps rules : List ℕ) (w : Hi
   kept : Kept h s people steps rules signer
   kept = go (stands h j w .standing)
     where
-      same : (p t q : List ℕ) → job p t q ≡ job people steps rules → Kept h s p t q signer → Kept h s people steps rules signer
-      same p t q e k =
-          let x : p ≡ people = cc in let y : t ≡ steps = cc in let z : q ≡ rules = cc in
-          subst (λ (l : List ℕ). Kept h s l steps rules signer) x
-          (subst (λ (l : List ℕ). Kept h s p l rules signer) y (subst (λ (l : List ℕ). Kept h s p t l signer) z k))
-
       go : Standing h signer → Kept h s people steps rules signer
-      go (closed o e f) = absurd (nothing-unreadable (sym (ap readSheet e) ∙ r))
-      go (working p t q e k) = same p t q (sym e ∙ r) k
+      go (never o e f) = absurd (nothing-unreadable (sym (ap readSheet e) ∙ r))
+      go (working p t q e k) = same-cards s e r (λ x y z. Kept h s x y z signer) k
 
   -- a step was granted to somebody exactly where it has a signer
   module _ (a t : ℕ) (step : Names s steps a t) where
@@ -113,7 +103,7 @@ module _ (h : List Event) (j : JobState) (people steps rules : List ℕ) (w : Hi
         let v : getD signer (x .0) 0 ≡ getD signer t 0 = ap (λ (y : ℕ). getD signer y 0) e in
         absurd (omega (arith, m, v, z))
 
-  pub signers : SignedAs h s people steps j
+  signers : SignedAs h s people steps j
   signers =
       record {
         holds = stands h j w .holds;
@@ -225,7 +215,7 @@ module _ (h : List Event) (j : JobState) (people steps rules : List ℕ) (w : Hi
               ∙ ap₂ (λ (x y : ℕ). granted x y j .job) (same-step s people steps rules r a t u st su) (same-person s people steps rules r b p q pe pq);
         }
 
-    pub signs : Signs h s people steps rules j a b number left
+    signs : Signs h s people steps rules j a b number left
     signs = case-signs (sign-cases s people steps rules j (stands h j w .holds) r a b)
 
   -- ---- somebody can sign, and who has signed
@@ -235,7 +225,7 @@ module _ (h : List Event) (j : JobState) (people steps rules : List ℕ) (w : Hi
   abbrev person-tag : ℕ → ℕ
   person-tag p = tagOf s (getD people p 0)
 
-  pub somebody : (t : ℕ) → t < length steps → Open h (step-tag t)
+  somebody : (t : ℕ) → t < length steps → Open h (step-tag t)
       → (p : ℕ) × (p < length people) × ((number : ℕ) (left : JobState) → SignPromise j (step-tag t) (person-tag p) number left → number ≡ 0)
   somebody t l f =
       let x = kept .finish in
@@ -247,7 +237,7 @@ module _ (h : List Event) (j : JobState) (people steps rules : List ℕ) (w : Hi
             (x .0, x .1, refl, granted-signer (x .0) (x .2)),
       )
 
-  pub finished : ((t : ℕ) → t < length steps → Open h (step-tag t) → ⊥)
+  finished : ((t : ℕ) → t < length steps → Open h (step-tag t) → ⊥)
       → (π : Plan) × Valid (instanceIn s people steps rules) (mayDo s people steps rules) π × ((t : ℕ) → t < length steps → Granted h (step-tag t) (person-tag (π t)))
   finished f =
       let x = kept .finish in (
@@ -296,24 +286,24 @@ finished-demand h j people steps rules w r f = finished h j people steps rules w
 
 -- ---- a refusal, whatever the job
 
-pub refusal-demand : demands.RefusalDemand
-refusal-demand j a b number left o = go (readSheet (held j)) refl
+pub signing-ends-demand : demands.SigningEndsDemand
+signing-ends-demand j a b number left o = go (readSheet (held j)) refl
   where
     refused : (f : ℕ) → signAnswer j a b ≡ refusedSigning f j → (number ≡ f * 256 + 0)
-        × (left ≡ record { refusals = left .refusals; «sheet_len» = j .«sheet_len»; sheet = j .sheet; signer = j .signer })
+        × (left ≡ withCount j (left .refusals))
     refused f e =
         let d = o .job-left ∙ ap (λ (y : Answered). y .job) e in (
           o .returned ∙ ap (λ (y : Answered). y .number) e,
           d
-              ∙ ap (λ (x : ℕ). record { refusals = x; «sheet_len» = j .«sheet_len»; sheet = j .sheet; signer = j .signer }) (sym (ap (λ (y : JobState). y .refusals) d)),
+              ∙ ap (withCount j) (sym (ap (λ (y : JobState). y .refusals) d)),
         )
 
-    cases : (people steps rules : List ℕ) → SignCase (held j) people steps rules j a b (signAnswer j a b) → demands.Refuses j number left
+    cases : (people steps rules : List ℕ) → SignCase (held j) people steps rules j a b (signAnswer j a b) → demands.SigningEnds j number left
     cases people steps rules (unknown x e) = let k = refused 14 e in inr (inl (omega (arith, k .0)), k .1)
     cases people steps rules (signed t p st pe c e) = let k = refused 15 e in inr (inr (inl (omega (arith, k .0))), k .1)
     cases people steps rules (ungranted t p st pe c f e) = let k = refused 16 e in inr (inr (inr (omega (arith, k .0))), k .1)
     cases people steps rules (given t p st pe c f e) = inl (o .returned ∙ ap (λ (y : Answered). y .number) e)
 
-    go : (x : Read) → readSheet (held j) ≡ x → demands.Refuses j number left
+    go : (x : Read) → readSheet (held j) ≡ x → demands.SigningEnds j number left
     go (fault f c) e = let k = refused 14 (sign-unreadable j a b f c e) in inr (inl (omega (arith, k .0)), k .1)
     go (job people steps rules) e = cases people steps rules (sign-cases (held j) people steps rules j refl e a b)

@@ -1,22 +1,22 @@
 -- What the calls keep of a job, whatever its history: the sheet that it holds, who has signed, and its count. Assumes nothing.
-use mathlib.Core.Bool.{Bool, true, false, cond}
+use mathlib.Core.Bool.{Bool, true, cond}
 use mathlib.Core.List.{List, [], _∷_}
 use mathlib.Core.Logic.{_↔_, _⊎_, inl, inr, ⊎-elim}
-use mathlib.Core.Path.{_≡_, refl, sym, _∙_, ap, ap₂, subst}
-use Prim.Native.Nat.{ℕ, zero, suc, _+_, _*_, _≤_, _<_, min}
+use mathlib.Core.Path.{_≡_, refl, sym, _∙_, ap, subst}
+use Prim.Native.Nat.{ℕ, suc, _+_, _*_, _≤_, _<_, min}
 use native.Mathlib.Omega.{arith}
 use lib.Dec.{eqb, ltb}
 use lib.ListN.{length, getD, set, length-set}
 use lib.Seq.{getD-set-same, getD-set-other}
-use borrow.Author.Tests.{eq-eqb, ne-eqb, eqb-true, eqb-false, lt-ltb, le-ltb, ltb-true, ltb-false}
-use Rattle.bits.proofs.Below.{by-cases, true-false}
+use borrow.Author.Tests.{eq-eqb, ne-eqb, eqb-true, eqb-false, ltb-true, ltb-false}
+use Rattle.bits.proofs.Below.{by-cases}
 use Rattle.card.specs.Fields.{tagOf}
 use Rattle.sheet.proofs.InOrder.{length-right}
 use Rattle.sheet.proofs.Passes.{sheet-passes}
 use Rattle.sheet.proofs.Readable.{readable-job}
 use Rattle.sheet.specs.Answer.{zeros}
 use Rattle.sheet.specs.Faults.{cardsIn}
-use Rattle.sheet.specs.Read.{job, fault, readSheet}
+use Rattle.sheet.specs.Read.{job, readSheet}
 use Rattle.workflow.specs.Problem.{Satisfiable}
 use Rattle.instance.specs.Instance.{instanceIn, mayDo}
 use Rattle.signing.proofs.Cases.{sign-cases, sign-nothing}
@@ -31,7 +31,7 @@ use Rattle.signing.specs.State.{neverOpened, held, opened}
 use Rattle.signing.specs.declared.Answered.{Answered}
 use Rattle.signing.specs.declared.JobState.{JobState}
 use Rattle.fulmarinvar.specs.Demands.{JobOfCards}
-use Rattle.fulmarinvar.specs.History.{Event, opening, signing, History, NeverOpened, lastOpened, Granted, refused}
+use Rattle.fulmarinvar.specs.History.{Event, opening, signing, History, NeverOpened, lastOpened, Granted, refusedCount}
 use Rattle.fulmarinvar.specs.Promise.{OpenPromise, SignPromise}
 use Rattle.fulmarinvar.proofs.Ending.{reader-refusal}
 use Rattle.fulmarinvar.proofs.SheetDemand.{jobs-of-cards}
@@ -46,27 +46,27 @@ pub record Kept (h : List Event) (s people steps rules : List ℕ) (signer : Lis
   pub finish : CanFinish s people steps rules signer
 
 pub data Standing (h : List Event) (signer : List ℕ) : Type 0 where
-  closed : NeverOpened h → lastOpened h ≡ [] → ((a b : ℕ) → Granted h a b → ⊥) → Standing h signer
+  never : NeverOpened h → lastOpened h ≡ [] → ((a b : ℕ) → Granted h a b → ⊥) → Standing h signer
   working : (people steps rules : List ℕ) → readSheet (lastOpened h) ≡ job people steps rules → Kept h (lastOpened h) people steps rules signer → Standing h signer
 
 pub record Stands (h : List Event) (j : JobState) : Type 0 where
   pub holds : held j ≡ lastOpened h
   pub sized : length (j .signer) ≡ 12
-  pub count : j .refusals ≡ min (refused h) 1000000
+  pub count : j .refusals ≡ min (refusedCount h) mostRefusals
   pub standing : Standing h (j .signer)
 
 -- ---- all bytes zero
 
 stands-never : Stands [] neverOpened
-unfolding lastOpened refused
-stands-never = record { holds = held-never; sized = refl; count = refl; standing = closed tt refl (λ a b g. g) }
+unfolding lastOpened refusedCount
+stands-never = record { holds = held-never; sized = refl; count = refl; standing = never tt refl (λ a b g. g) }
 
 -- ---- where nothing is opened and nothing granted
 
 standing-like : (h h′ : List Event) (signer : List ℕ) → lastOpened h′ ≡ lastOpened h → (NeverOpened h → NeverOpened h′)
     → ((a b : ℕ) → Granted h′ a b ↔ Granted h a b) → Standing h signer → Standing h′ signer
-standing-like h h′ signer e never same (closed o d none-granted) = closed (never o) (e ∙ d) (λ a b g. none-granted a b (same a b .0 g))
-standing-like h h′ signer e never same (working people steps rules r k) =
+standing-like h h′ signer e unopened same (never o d none-granted) = never (unopened o) (e ∙ d) (λ a b g. none-granted a b (same a b .0 g))
+standing-like h h′ signer e unopened same (working people steps rules r k) =
     working people steps rules (ap readSheet e ∙ r)
     (subst (λ (s : List ℕ). Kept h′ s people steps rules signer) (sym e)
     (record {
@@ -78,32 +78,32 @@ standing-like h h′ signer e never same (working people steps rules r k) =
     }))
 
 stands-unopened : (h : List Event) (i : JobState) (s : List ℕ) (n : ℕ) → (n ≡ 0 → ⊥) → Stands h i → Stands (opening s n ∷ h) i
-unfolding lastOpened refused
+unfolding lastOpened refusedCount
 stands-unopened h i s n z w =
     let e = ne-eqb n 0 z in
     let last = ap (λ (b : Bool). cond b s (lastOpened h)) e in
     record {
       holds = w .holds ∙ sym last;
       sized = w .sized;
-      count = w .count ∙ sym (ap (λ (b : Bool). min (cond b 0 (refused h)) 1000000) e);
+      count = w .count ∙ sym (ap (λ (b : Bool). min (cond b 0 (refusedCount h)) mostRefusals) e);
       standing = standing-like h (opening s n ∷ h) (i .signer) last (λ o. (z, o)) (λ a b. (λ g. g .1, λ g. (z, g))) (w .standing);
     }
 
-counted-min : (r : ℕ) → counted (min r 1000000) ≡ min (suc r) 1000000
+counted-min : (r : ℕ) → counted (min r mostRefusals) ≡ min (suc r) mostRefusals
 counted-min r =
-    by-cases (ltb (min r 1000000) 1000000)
-    (λ t. let l = ltb-true (min r 1000000) 1000000 t in ap (λ (b : Bool). cond b (suc (min r 1000000)) (min r 1000000)) t ∙ (omega arith))
-    (λ t. let l = ltb-false (min r 1000000) 1000000 t in ap (λ (b : Bool). cond b (suc (min r 1000000)) (min r 1000000)) t ∙ (omega arith))
+    by-cases (ltb (min r mostRefusals) mostRefusals)
+    (λ t. let l = ltb-true (min r mostRefusals) mostRefusals t in ap (λ (b : Bool). cond b (suc (min r mostRefusals)) (min r mostRefusals)) t ∙ (omega arith))
+    (λ t. let l = ltb-false (min r mostRefusals) mostRefusals t in ap (λ (b : Bool). cond b (suc (min r mostRefusals)) (min r mostRefusals)) t ∙ (omega arith))
 
 stands-refused : (h : List Event) (i : JobState) (a b n f : ℕ) → (n ≡ 0 → ⊥) → Stands h i → Stands (signing a b n ∷ h) (refusedSigning f i .job)
-unfolding lastOpened refused held
+unfolding lastOpened refusedCount held
 stands-refused h i a b n f z w =
     record {
       holds = w .holds;
       sized = w .sized;
       count =
-          ap counted (w .count) ∙ counted-min (refused h)
-          ∙ sym (ap (λ (b : Bool). min (cond b (refused h) (suc (refused h))) 1000000) (ne-eqb n 0 z));
+          ap counted (w .count) ∙ counted-min (refusedCount h)
+          ∙ sym (ap (λ (b : Bool). min (cond b (refusedCount h) (suc (refusedCount h))) mostRefusals) (ne-eqb n 0 z));
       standing = standing-like h (signing a b n ∷ h) (i .signer) refl (λ o. o) (λ x y. (λ g. ⊎-elim (λ e. absurd (z (e .0))) (λ e. e) g, inr)) (w .standing);
     }
 
@@ -117,14 +117,14 @@ module _ (s people steps rules : List ℕ) (r : readSheet s ≡ job people steps
   few-steps = readable-job s people steps rules (cardsIn s) (sheet-passes s people steps rules r .rest) .steps-most
 
   stands-opened : (h : List Event) (n : ℕ) → n ≡ 0 → Satisfiable (instanceIn s people steps rules) (mayDo s people steps rules) → Stands (opening s n ∷ h) (opened s)
-  unfolding lastOpened refused opened
+  unfolding lastOpened refusedCount opened
   stands-opened h n z w =
       let e = eq-eqb n 0 z in
       let last = ap (λ (b : Bool). cond b s (lastOpened h)) e in
       record {
         holds = held-opened s fits ∙ sym last;
         sized = refl;
-        count = sym (ap (λ (b : Bool). min (cond b 0 (refused h)) 1000000) e);
+        count = sym (ap (λ (b : Bool). min (cond b 0 (refusedCount h)) mostRefusals) e);
         standing =
             working people steps rules (ap readSheet last ∙ r)
             (subst (λ (x : List ℕ). Kept (opening s n ∷ h) x people steps rules (zeros 12)) (sym last)
@@ -237,14 +237,14 @@ module _ (h : List Event) (i : JobState) (w : Stands h i) where
     module _ (people steps rules : List ℕ) (r : readSheet (lastOpened h) ≡ job people steps rules) (k : Kept h (lastOpened h) people steps rules (i .signer)) where
       given-stands : (t p : ℕ) → Names (lastOpened h) steps a t → Names (lastOpened h) people b p → isOpen (i .signer) t ≡ true
           → CanFinish (lastOpened h) people steps rules (set (i .signer) t (suc p)) → signAnswer i a b ≡ granted t p i → Stands (signing a b n ∷ h) j
-      unfolding lastOpened refused held
+      unfolding lastOpened refusedCount held
       given-stands t p step person free plan e =
           let z : n ≡ 0 = o .returned ∙ ap (λ (y : Answered). y .number) e in
           subst (Stands (signing a b n ∷ h)) (sym (o .job-left ∙ ap (λ (y : Answered). y .job) e))
           (record {
             holds = w .holds;
             sized = length-set (i .signer) t (suc p) ∙ w .sized;
-            count = w .count ∙ sym (ap (λ (b : Bool). min (cond b (refused h) (suc (refused h))) 1000000) (eq-eqb n 0 z));
+            count = w .count ∙ sym (ap (λ (b : Bool). min (cond b (refusedCount h) (suc (refusedCount h))) mostRefusals) (eq-eqb n 0 z));
             standing = working people steps rules r
                 (kept-granted (lastOpened h) people steps rules r h (i .signer) (w .sized) k a b t p step person free n z plan);
           })
@@ -259,7 +259,7 @@ module _ (h : List Event) (i : JobState) (w : Stands h i) where
     signing-stands = go (w .standing)
       where
         go : Standing h (i .signer) → Stands (signing a b n ∷ h) j
-        go (closed o d nobody) = turned-stands 14 (omega arith) (sign-nothing i a b (w .holds ∙ d))
+        go (never o d nobody) = turned-stands 14 (omega arith) (sign-nothing i a b (w .holds ∙ d))
         go (working people steps rules r k) =
             case-stands people steps rules r k (sign-cases (lastOpened h) people steps rules i (w .holds) r a b)
 

@@ -22,12 +22,13 @@ day =
     ∷ signing 30 103 (14 * 256)
     ∷ []
 
--- the job after some calls, and that each returned its number
+-- the job after some calls
 abbrev pub after : List Event → JobState
 after [] = neverOpened
 after (opening s n ∷ h) = openAnswer (after h) s .job
 after (signing a b n ∷ h) = signAnswer (after h) a b .job
 
+-- each call returned its number
 abbrev pub Returned : List Event → Type 0
 Returned [] = Unit {0}
 Returned (opening s n ∷ h) = (n ≡ openAnswer (after h) s .number) × Returned h

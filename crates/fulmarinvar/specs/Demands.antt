@@ -1,11 +1,11 @@
--- The owner's three demands, about the number that a call returns and the bytes that it leaves, and what is asked of signing. proofs/CrewDemand.antt,
--- SpareDemand.antt and SheetDemand.antt prove the demands from the calls' promises (Promise.antt), ReadBack.antt what the host reads,
--- OpenDemand.antt and SignDemand.antt the laws of a job. Assumes nothing.
+-- The owner's three demands, about the number that a call returns and the bytes that it leaves. proofs/CrewDemand.antt, SpareDemand.antt and
+-- SheetDemand.antt prove them from the calls' promises (Promise.antt), ReadBack.antt what the host reads. What is asked of signing stands in
+-- Signing.antt. Assumes nothing.
 use mathlib.Core.List.{List, [], _∷_, _++_}
 use mathlib.Core.Logic.{_↔_, _⊎_}
 use mathlib.Core.Path.{_≡_}
-use Prim.Native.Nat.{ℕ, suc, _+_, _*_, _<_, _≤_, min}
-use lib.ListN.{length, getD, set, drop}
+use Prim.Native.Nat.{ℕ, suc, _+_, _*_, _<_, _≤_}
+use lib.ListN.{length, getD, drop}
 use Rattle.bits.specs.Below.{count}
 use Rattle.bits.specs.Word.{byteAt, longAt, hasBit}
 use Rattle.card.specs.Fields.{tagOf, shopOf, benchOf, permittedOf, ruleKindOf, levelOf, limitOf, scopeOf}
@@ -13,7 +13,7 @@ use Rattle.sheet.specs.Answer.{jobOf}
 use Rattle.sheet.specs.Faults.{Fault, cardsIn}
 use Rattle.sheet.specs.Read.{job, fault, readSheet}
 use Rattle.sheet.specs.Readable.{Chains}
-use Rattle.workflow.specs.Problem.{Job, May, Plan, Valid, Satisfiable, Nested, Fits, ruleOf}
+use Rattle.workflow.specs.Problem.{Job, May, Plan, Satisfiable, Nested, Fits, ruleOf}
 use Rattle.workflow.specs.First.{FirstValid, listOf}
 use Rattle.workflow.specs.Numbered.{kindIn}
 use Rattle.instance.specs.Instance.{instanceIn, mayDo, crewTags}
@@ -21,11 +21,7 @@ use Rattle.answer.specs.Bytes.{written}
 use Rattle.resiliency.specs.Away.{Group, FirstBreaking}
 use Rattle.resiliency.specs.Count.{Largest}
 use Rattle.resiliency.specs.Spare.{awayTags}
-use Rattle.signing.specs.Cases.{Names}
-use Rattle.signing.specs.State.{held, opened}
-use Rattle.signing.specs.declared.JobState.{JobState}
-use Rattle.fulmarinvar.specs.History.{Event, opening, History, NeverOpened, lastOpened, Granted, Open, refused}
-use Rattle.fulmarinvar.specs.Promise.{CrewPromise, SparePromise, OpenPromise, SignPromise, RefusalsPromise}
+use Rattle.fulmarinvar.specs.Promise.{CrewPromise, SparePromise}
 
 -- ---- Demand 1. "Every file, however long or garbled, is read to an end: a crew, a spare count, or one numbered refusal with the card
 -- concerned; a refusal changes no byte of the buffers lent."
@@ -207,132 +203,3 @@ CrewRefuses = (s buffer : List ℕ) (number : ℕ) (left : List ℕ) → CrewPro
 
 abbrev pub SpareRefuses : Type 0
 SpareRefuses = (cap : ℕ) (s buffer : List ℕ) (number : ℕ) (left : List ℕ) → SparePromise cap s buffer number left → SpareRefusals cap s buffer number
-
--- ---- Signing as the work goes (paper 02, Ask 1). h is the history of the job j, s the sheet of its last opening that succeeded, people, steps
--- and rules the cards of its chains; `Names s steps a t` says that step t of the chain has the tag a.
-
--- "opening refuses with 3 to 13 as the crew call does and leaves the job untouched"; "Opening, the first time too, clears signings and count"
-pub record Opens (s : List ℕ) (j : JobState) (number : ℕ) (left : JobState) : Type 0 where
-  -- with room for twelve steps the crew call never gives 1
-  pub as-crew : (buffer : List ℕ) (n : ℕ) (bytes : List ℕ) → 96 ≤ length buffer → CrewPromise s buffer n bytes → number ≡ n
-  pub outcome : (number ≡ 0) ⊎ (NumberedRefusal s number × (3 * 256 ≤ number))
-  -- "A job that has a plan is opened", and no other
-  pub planned : (people steps rules : List ℕ) → readSheet s ≡ job people steps rules
-      → (number ≡ 0) ↔ Satisfiable (instanceIn s people steps rules) (mayDo s people steps rules)
-  pub untouched : (number ≡ 0 → ⊥) → left ≡ j
-  -- the same job whatever it was before: no step signed, count 0, and the sheet in it
-  pub cleared : number ≡ 0 → left ≡ opened s
-
-abbrev pub OpenDemand : Type 0
-OpenDemand = (s : List ℕ) (j : JobState) (number : ℕ) (left : JobState) → OpenPromise j s number left → Opens s j number left
-
--- whatever the memory was before an opening that succeeded, the job's history begins there: all laws hold of it
-abbrev pub AnewDemand : Type 0
-AnewDemand = (s : List ℕ) (j left : JobState) → OpenPromise j s 0 left → History (opening s 0 ∷ []) left
-
--- no opening has succeeded, or the sheet of the last that has is readable, and has a plan
-abbrev pub OpenedDemand : Type 0
-OpenedDemand =
-    (h : List Event) (j : JobState)
-    → History h j
-    → NeverOpened h
-    ⊎ ((people : List ℕ) × (steps : List ℕ) × (rules : List ℕ) × (readSheet (lastOpened h) ≡ job people steps rules)
-    × Satisfiable (instanceIn (lastOpened h) people steps rules) (mayDo (lastOpened h) people steps rules))
-
--- "in a job never opened .. every step is unknown": nothing is granted
-pub record Unopened (h : List Event) (j : JobState) : Type 0 where
-  pub unknown : (a b number : ℕ) (left : JobState) → SignPromise j a b number left → number ≡ 14 * 256
-  pub ungranted : (a b : ℕ) → Granted h a b → ⊥
-
-abbrev pub NeverOpenedDemand : Type 0
-NeverOpenedDemand = (h : List Event) (j : JobState) → History h j → NeverOpened h → Unopened h j
-
--- what is signed are the grants since the last opening that succeeded, in the bytes of the job
-pub record SignedAs (h : List Event) (s people steps : List ℕ) (j : JobState) : Type 0 where
-  -- "with all it needs of the sheet"
-  pub holds : held j ≡ s
-  pub signed : (t p : ℕ) → t < length steps → p < length people
-      → (getD (j .signer) t 0 ≡ suc p) ↔ Granted h (tagOf s (getD steps t 0)) (tagOf s (getD people p 0))
-  pub unsigned : (t : ℕ) → t < length steps → (getD (j .signer) t 0 ≡ 0) ↔ Open h (tagOf s (getD steps t 0))
-  pub beyond : (t : ℕ) → length steps ≤ t → getD (j .signer) t 0 ≡ 0
-  -- every grant is of a step and a person of the sheet
-  pub named : (a b : ℕ) → Granted h a b → (t : ℕ) × (p : ℕ) × Names s steps a t × Names s people b p
-
-abbrev pub SignedDemand : Type 0
-SignedDemand =
-    (h : List Event) (j : JobState) (people steps rules : List ℕ)
-    → History h j
-    → readSheet (lastOpened h) ≡ job people steps rules
-    → SignedAs h (lastOpened h) people steps j
-
--- "some valid plan agrees with it and with all granted before": with person p at step t
-abbrev pub Agrees : List Event → List ℕ → List ℕ → List ℕ → List ℕ → ℕ → ℕ → Type 0
-Agrees h s people steps rules t p =
-    (π : Plan)
-    × Valid (instanceIn s people steps rules) (mayDo s people steps rules) π
-    × (π t ≡ p)
-    × ((u q : ℕ) → u < length steps → q < length people → Granted h (tagOf s (getD steps u 0)) (tagOf s (getD people q 0)) → π u ≡ q)
-
--- the signing of the step with tag a by the person with tag b
-pub record Signs (h : List Event) (s people steps rules : List ℕ) (j : JobState) (a b number : ℕ) (left : JobState) : Type 0 where
-  -- "It refuses with 14 an unknown step or person"
-  pub unknown : (number ≡ 14 * 256) ↔ ((t p : ℕ) → Names s steps a t → Names s people b p → ⊥)
-  -- "with 15 a signed step"
-  pub signed : (t p : ℕ) → Names s steps a t → Names s people b p → (number ≡ 15 * 256) ↔ ((c : ℕ) × Granted h a c)
-  -- "For an open step and a person on the sheet it is granted exactly when some valid plan agrees with it and with all granted before"
-  pub granted : (t p : ℕ) → Names s steps a t → Names s people b p → Open h a → (number ≡ 0) ↔ Agrees h s people steps rules t p
-  -- "with 16 any other signing not granted"
-  pub ungranted : (t p : ℕ) → Names s steps a t → Names s people b p → Open h a → (number ≡ 16 * 256) ↔ (Agrees h s people steps rules t p → ⊥)
-  -- a grant signs the step, and nothing else differs
-  pub signs : (t p : ℕ) → Names s steps a t → Names s people b p → number ≡ 0
-      → left ≡ record { refusals = j .refusals; «sheet_len» = j .«sheet_len»; sheet = j .sheet; signer = set (j .signer) t (suc p) }
-
-abbrev pub SignDemand : Type 0
-SignDemand =
-    (h : List Event) (j : JobState) (people steps rules : List ℕ) (a b number : ℕ) (left : JobState)
-    → History h j
-    → readSheet (lastOpened h) ≡ job people steps rules
-    → SignPromise j a b number left
-    → Signs h (lastOpened h) people steps rules j a b number left
-
--- every signing ends in a grant or in one of three refusals, "the job then changed in its counter only", whatever the job was
-abbrev pub Refuses : JobState → ℕ → JobState → Type 0
-Refuses j number left =
-    (number ≡ 0)
-    ⊎ (((number ≡ 14 * 256) ⊎ ((number ≡ 15 * 256) ⊎ (number ≡ 16 * 256)))
-    × (left ≡ record { refusals = left .refusals; «sheet_len» = j .«sheet_len»; sheet = j .sheet; signer = j .signer }))
-
-abbrev pub RefusalDemand : Type 0
-RefusalDemand = (j : JobState) (a b number : ℕ) (left : JobState) → SignPromise j a b number left → Refuses j number left
-
--- tag 0 is on no sheet
-abbrev pub ZeroDemand : Type 0
-ZeroDemand = (j : JobState) (a b number : ℕ) (left : JobState) → SignPromise j a b number left → (a ≡ 0) ⊎ (b ≡ 0) → number ≡ 14 * 256
-
--- "The job also counts refused signings from 0, stopping at 1,000,000."
-abbrev pub CountDemand : Type 0
-CountDemand = (h : List Event) (j : JobState) (number : ℕ) → History h j → RefusalsPromise j number → number ≡ min (refused h) 1000000
-
--- "As long as a step is open, somebody would be granted it, however the earlier grants fell."
-abbrev pub SomebodyDemand : Type 0
-SomebodyDemand =
-    (h : List Event) (j : JobState) (people steps rules : List ℕ)
-    → History h j
-    → readSheet (lastOpened h) ≡ job people steps rules
-    → (t : ℕ)
-    → t < length steps
-    → Open h (tagOf (lastOpened h) (getD steps t 0))
-    → (p : ℕ)
-    × (p < length people)
-    × ((number : ℕ) (left : JobState) → SignPromise j (tagOf (lastOpened h) (getD steps t 0)) (tagOf (lastOpened h) (getD people p 0)) number left → number ≡ 0)
-
--- with no step open, the people signed are a valid plan
-abbrev pub FinishedDemand : Type 0
-FinishedDemand =
-    (h : List Event) (j : JobState) (people steps rules : List ℕ)
-    → History h j
-    → readSheet (lastOpened h) ≡ job people steps rules
-    → ((t : ℕ) → t < length steps → Open h (tagOf (lastOpened h) (getD steps t 0)) → ⊥)
-    → (π : Plan)
-    × Valid (instanceIn (lastOpened h) people steps rules) (mayDo (lastOpened h) people steps rules) π
-    × ((t : ℕ) → t < length steps → Granted h (tagOf (lastOpened h) (getD steps t 0)) (tagOf (lastOpened h) (getD people (π t) 0)))

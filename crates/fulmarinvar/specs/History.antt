@@ -1,5 +1,5 @@
 -- A job changed by its calls alone: what was called and which number came back, the newest call first, from all bytes zero on. The laws of
--- signing (Demands.antt) are about what the host has seen so. Assumes nothing.
+-- signing (Signing.antt) are about what the host has seen so. Assumes nothing.
 use mathlib.Core.Bool.{cond}
 use mathlib.Core.List.{List, [], _∷_}
 use mathlib.Core.Logic.{_⊎_}
@@ -12,12 +12,12 @@ use Rattle.fulmarinvar.specs.Promise.{OpenPromise, SignPromise}
 
 -- the calls that may change a job, each with the number that it returned
 pub data Event : Type 0 where
-  -- with a sheet
+  -- opening s n: with the sheet s
   opening : List ℕ → ℕ → Event
-  -- of a step by a person, both by tag
+  -- signing a b n: of the step with tag a by the person with tag b
   signing : ℕ → ℕ → ℕ → Event
 
--- the job j after these calls. A call that counts refusals changes no byte, and is left out
+-- the job j after these calls. The call that tells the count changes no byte, and is left out
 abbrev pub History : List Event → JobState → Type 0
 History [] j = j ≡ neverOpened
 History (opening s n ∷ h) j = (i : JobState) × History h i × OpenPromise i s n j
@@ -46,7 +46,7 @@ abbrev pub Open : List Event → ℕ → Type 0
 Open h a = (b : ℕ) → Granted h a b → ⊥
 
 -- how many signings were refused since then, or since all bytes were zero
-unfoldable pub refused : List Event → ℕ
-refused [] = 0
-refused (opening s n ∷ h) = cond (eqb n 0) 0 (refused h)
-refused (signing a b n ∷ h) = cond (eqb n 0) (refused h) (suc (refused h))
+unfoldable pub refusedCount : List Event → ℕ
+refusedCount [] = 0
+refusedCount (opening s n ∷ h) = cond (eqb n 0) 0 (refusedCount h)
+refusedCount (signing a b n ∷ h) = cond (eqb n 0) (refusedCount h) (suc (refusedCount h))

@@ -43,7 +43,7 @@ pub extern "C" fn fulmarinvar_sign(job: &mut JobState, step: u32, person: u32) -
     answered.number
 }
 
-// Counts the refused signings of a job.
+// Tells the count of refused signings of a job.
 #[no_mangle]
 pub extern "C" fn fulmarinvar_refusals(job: &JobState) -> u32
     ensures { λ r. ⌜ RefusalsPromise (now (job .entry)) r ⌝ }

@@ -1,10 +1,9 @@
 -- The spare call in the words of paper 01: each refusal, and what is written on a readable sheet. Assumes nothing.
 use mathlib.Core.List.{List, []}
-use mathlib.Core.Path.{_≡_, refl, sym, subst, ap, _∙_}
+use mathlib.Core.Path.{_≡_, refl, sym, ap, _∙_}
 use Prim.Native.Nat.{ℕ, suc, _≤_, _<_}
 use lib.ListN.{length}
 use borrow.Author.Tests.{lt-ltb, le-ltb}
-use native.Mathlib.Omega.{arith}
 use Rattle.sheet.specs.Answer.{jobOf, sheetOf}
 use Rattle.answer.specs.Number.{refusalNumber, numberOf}
 use Rattle.sheet.specs.Readable.{ReadableJob}

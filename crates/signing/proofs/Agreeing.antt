@@ -1,16 +1,15 @@
 -- A plan among those who may still do the steps is a plan that agrees with what is signed. Assumes nothing.
-use mathlib.Core.Bool.{Bool, true, false, _&&_, _||_}
+use mathlib.Core.Bool.{Bool, true, _&&_, _||_}
 use mathlib.Core.List.{List}
 use mathlib.Core.Logic.{_↔_}
-use mathlib.Core.Path.{_≡_, refl, sym, _∙_, ap, ap₂}
-use Prim.Native.Nat.{ℕ, suc, _<_}
-use native.Mathlib.Omega.{arith}
+use mathlib.Core.Path.{_≡_, sym, _∙_, ap, ap₂}
+use Prim.Native.Nat.{ℕ, suc}
 use lib.Dec.{eqb}
 use lib.ListN.{getD}
 use borrow.Author.Tests.{eq-eqb, eqb-true}
 use Rattle.bits.proofs.Below.{by-cases, true-false, and-left, and-right}
 use Rattle.workflow.specs.Problem.{Job, May, Plan, Valid, Satisfiable}
-use Rattle.signing.specs.Bound.{isOpen, leftTo, bound, AgreesWith}
+use Rattle.signing.specs.Bound.{leftTo, bound, AgreesWith}
 
 -- of one step
 left-agrees : (signer p : ℕ) → leftTo signer p ≡ true → (eqb signer 0 ≡ true → ⊥) → signer ≡ suc p
@@ -22,7 +21,7 @@ agrees-left signer p h =
     (λ f. ap₂ (λ (b c : Bool). b || c) f (eq-eqb signer (suc p) (h (λ t. true-false t f))))
 
 module _ (j : Job) (may : May) (signer : List ℕ) where
-  pub bound-valid : (π : Plan) → Valid j (bound may signer) π ↔ (Valid j may π × AgreesWith (j .steps) signer π)
+  bound-valid : (π : Plan) → Valid j (bound may signer) π ↔ (Valid j may π × AgreesWith (j .steps) signer π)
   bound-valid π = (
     λ v. (
       record { within = v .within; authorised = λ s l. and-left (may s (π s)) _ (v .authorised s l); eligible = v .eligible },

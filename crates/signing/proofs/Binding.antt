@@ -1,7 +1,7 @@
 -- A signed step is left to its signer alone, in the masks of people. Assumes nothing.
 use mathlib.Core.Bool.{Bool, true, false, _&&_, _||_, and-true, and-false}
 use mathlib.Core.List.{List}
-use mathlib.Core.Path.{_≡_, refl, sym, _∙_, ap, subst}
+use mathlib.Core.Path.{_≡_, sym, _∙_, ap, subst}
 use Prim.Native.Nat.{ℕ, suc, _+_, _-_, _≤_, _<_}
 use native.Mathlib.Omega.{arith}
 use native.Mathlib.Nat.{not-suc-le-zero}
@@ -14,7 +14,6 @@ use Rattle.bits.specs.Set.{Added}
 use Rattle.bits.specs.Word.{hasBit}
 use Rattle.bits.proofs.Below.{by-cases, below-suc}
 use Rattle.bits.proofs.SetLaws.{empty-lacks}
-use Rattle.pattern.specs.Tables.{mayIn}
 use Rattle.signing.specs.Bound.{leftTo}
 use Rattle.signing.specs.Masks.{Left, BoundMasks}
 

@@ -1,20 +1,20 @@
 -- A signing on a job that holds a readable sheet is one of four cases. Assumes nothing.
 use mathlib.Core.Bool.{Bool, true, false, not, _||_}
 use mathlib.Core.List.{List, []}
-use mathlib.Core.Logic.{_⊎_, inl, inr, ⊎-elim}
+use mathlib.Core.Logic.{_⊎_, ⊎-elim}
 use mathlib.Core.Path.{_≡_, refl, sym, _∙_, ap, ap₂}
 use Prim.Native.Nat.{ℕ, suc, _≤_, _<_}
 use native.Mathlib.Omega.{arith}
 use lib.Dec.{eqb, ltb}
 use lib.ListN.{length, getD, set}
-use borrow.Author.Tests.{eq-eqb, eqb-true, eqb-false, ltb-true, ltb-false, ne-eqb}
-use Rattle.bits.proofs.Below.{by-cases, true-false, first-le, first-has, first-none}
+use borrow.Author.Tests.{eq-eqb, eqb-true, ltb-true, ltb-false, ne-eqb}
+use Rattle.bits.proofs.Below.{by-cases, true-false, first-has, first-none}
 use Rattle.card.specs.Fields.{tagOf}
-use Rattle.card.specs.Refusals.{unknownFault, signedFault, ungrantedFault}
+use Rattle.card.specs.Refusals.{unknownFault}
 use Rattle.sheet.proofs.Fill.{getD-table}
 use Rattle.sheet.specs.Answer.{jobOf}
 use Rattle.sheet.specs.Read.{job, fault, readSheet}
-use Rattle.workflow.specs.Problem.{Job, May, Satisfiable}
+use Rattle.workflow.specs.Problem.{May}
 use Rattle.workflow.specs.First.{firstPlan}
 use Rattle.workflow.proofs.First.{satisfiable-or-not}
 use Rattle.instance.specs.Instance.{instanceIn, mayDo}
@@ -23,7 +23,6 @@ use Rattle.signing.specs.Cases.{Names, SignCase, unknown, signed, ungran
 use Rattle.signing.specs.Sign.{placeOf, firstRefusal, refusedSigning, unlessRefused, decided, signOf, signRead, signAnswer}
 use Rattle.signing.specs.State.{held}
 use Rattle.signing.specs.declared.JobState.{JobState}
-use Rattle.signing.specs.declared.Answered.{Answered}
 use Rattle.signing.proofs.Agreeing.{bound-satisfiable}
 use Rattle.signing.proofs.Deciding.{place-le, decided-yes, decided-no}
 
@@ -45,11 +44,11 @@ module _ (s people steps rules : List ℕ) where
   abbrev person-tags : List ℕ
   person-tags = jobOf s people steps rules .«person_tag»
 
-  pub step-tag-is : (t : ℕ) → t < length steps → getD step-tags t 0 ≡ tagOf s (getD steps t 0)
+  step-tag-is : (t : ℕ) → t < length steps → getD step-tags t 0 ≡ tagOf s (getD steps t 0)
   unfolding jobOf
   step-tag-is t l = getD-table 12 (tagOf s) steps t l
 
-  pub person-tag-is : (p : ℕ) → p < length people → getD person-tags p 0 ≡ tagOf s (getD people p 0)
+  person-tag-is : (p : ℕ) → p < length people → getD person-tags p 0 ≡ tagOf s (getD people p 0)
   unfolding jobOf
   person-tag-is p l = getD-table 64 (tagOf s) people p l
 

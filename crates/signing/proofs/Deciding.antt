@@ -8,9 +8,9 @@ use lib.Dec.{eqb}
 use lib.ListN.{set}
 use denote.Enum.Declared.{tagOf}
 use types.Run.{OneOf}
-use borrow.Author.Tests.{eq-eqb, ne-eqb, eqb-false, not-false}
+use borrow.Author.Tests.{eq-eqb, ne-eqb, eqb-false}
 use Rattle.bits.proofs.Below.{first-le}
-use Rattle.card.specs.Refusals.{unknownFault, signedFault, ungrantedFault}
+use Rattle.card.specs.Refusals.{unknownFault, ungrantedFault}
 use Rattle.sheet.proofs.Reading.{the-type}
 use Rattle.sheet.specs.Answer.{sheetOf}
 use Rattle.sheet.specs.Readable.{ReadableJob}
@@ -18,14 +18,14 @@ use Rattle.sheet.specs.declared.SheetJob as sheet
 use Rattle.sheet.specs.declared.Sheet.{Sheet}
 use Rattle.sheet.specs.declared.Reading.the-variants.{Readable}
 use Rattle.workflow.specs.Problem.{Job, May, Satisfiable}
-use Rattle.workflow.specs.First.{Found, found, nothing, firstPlan}
+use Rattle.workflow.specs.First.{firstPlan}
 use Rattle.workflow.proofs.First.{found-cases, firstPlan-nothing, no-valid-plan}
 use Rattle.instance.specs.Instance.{instanceOf, mayOf}
 use Rattle.answer.specs.Number.{refusalNumber}
 use Rattle.signing.specs.Bound.{isOpen, bound}
 use Rattle.signing.specs.Judged.{concluded}
 use Rattle.signing.specs.Sign.{placeOf, firstRefusal, counted, refusedSigning, granted, decided, unlessRefused, signOf, signRead, signAnswer}
-use Rattle.signing.specs.State.{held}
+use Rattle.signing.specs.State.{withCount, held}
 use Rattle.signing.specs.declared.JobState.{JobState}
 use Rattle.signing.specs.declared.Answered.{Answered}
 use Rattle.answer.proofs.WasRead.{was-refused, was-readable, was-job}
@@ -124,11 +124,7 @@ module _ {j : JobState} {step person people steps rules : ℕ} {posed : sheet.Sh
   pub sign-refused : (f ≡ 0 → ⊥) → concluded j f (j .signer) ≡ signAnswer j step person
   sign-refused z =
       ap
-      (λ (b : Bool).
-      record {
-        number = refusalNumber f 0;
-        job = record { refusals = cond b (j .refusals) (counted (j .refusals)); «sheet_len» = j .«sheet_len»; sheet = j .sheet; signer = j .signer };
-      })
+      (λ (b : Bool). record { number = refusalNumber f 0; job = withCount j (cond b (j .refusals) (counted (j .refusals))) })
       (ne-eqb f 0 z)
       ∙ sym (w .is ∙ ap (λ (b : Bool). cond b decision (refusedSigning f j)) (ne-eqb f 0 z))
 

@@ -1,8 +1,8 @@
 -- The sheet that a job holds: how its bytes are kept and read back. Assumes nothing.
 use mathlib.Core.Bool.{Bool, cond}
 use mathlib.Core.List.{List, [], _∷_, _++_, map}
-use mathlib.Core.Path.{_≡_, refl, sym, _∙_, ap, ap₂}
-use Prim.Native.Nat.{ℕ, zero, suc, _+_, _-_, _≤_, _<_}
+use mathlib.Core.Path.{_≡_, refl, _∙_, ap}
+use Prim.Native.Nat.{ℕ, _+_, _-_, _≤_, _<_}
 use native.Mathlib.Omega.{arith}
 use lib.Dec.{leb}
 use lib.ListN.{length, take}
@@ -11,9 +11,7 @@ use borrow.Author.Tests.{le-leb, lt-leb, leb-true, leb-false}
 use Rattle.bits.proofs.Below.{by-cases}
 use Rattle.sheet.proofs.Fill.{Filled, filled-all}
 use Rattle.sheet.specs.Answer.{table, zeros}
-use Rattle.sheet.specs.Read.{mostBytes}
 use Rattle.signing.specs.State.{neverOpened, heldLength, held, opened}
-use Rattle.signing.specs.declared.JobState.{JobState}
 
 -- a length that there is room for, and one that there is not
 pub length-some : (n : ℕ) → n ≤ 2256 → heldLength n ≡ n

@@ -1,24 +1,23 @@
 -- An opening, return by return. a is the reader's answer on the sheet s. Assumes nothing.
-use mathlib.Core.Bool.{Bool, true, false, _&&_, and-true}
+use mathlib.Core.Bool.{Bool, _&&_}
 use mathlib.Core.List.{List, [], _∷_, _++_}
 use mathlib.Core.Path.{_≡_, refl, sym, _∙_, ap, ap₂}
-use Prim.Native.Nat.{ℕ, zero, suc, _-_, _≤_, _<_}
+use Prim.Native.Nat.{ℕ, zero, suc, _-_, _≤_}
 use lib.ListN.{length, getD}
 use denote.Enum.Declared.{tagOf}
 use types.Run.{OneOf}
+use Rattle.bits.proofs.Below.{and-left}
 use Rattle.card.specs.Refusals.{planFault}
 use Rattle.sheet.proofs.InOrder.{length-right}
 use Rattle.sheet.proofs.Passes.{sheet-passes}
 use Rattle.sheet.proofs.Reading.{the-type}
 use Rattle.sheet.specs.Answer.{sheetOf, zeros}
-use Rattle.sheet.specs.Read.{readSheet}
 use Rattle.sheet.specs.declared.SheetJob as sheet
 use Rattle.sheet.specs.declared.Sheet.{Sheet}
-use Rattle.sheet.specs.declared.Reading.{Reading}
-use Rattle.sheet.specs.declared.Reading.the-variants.{Readable, Refused}
+use Rattle.sheet.specs.declared.Reading.the-variants.{Readable}
 use Rattle.workflow.specs.Problem.{Job, May, Satisfiable}
-use Rattle.workflow.specs.First.{found, nothing, firstPlan}
-use Rattle.workflow.proofs.First.{found-cases, firstPlan-nothing, firstPlan-found, no-valid-plan}
+use Rattle.workflow.specs.First.{firstPlan}
+use Rattle.workflow.proofs.First.{found-cases, firstPlan-nothing, no-valid-plan}
 use Rattle.workflow.proofs.Valid.{satisfiable-mono}
 use Rattle.instance.specs.Instance.{instanceOf, mayOf}
 use Rattle.answer.specs.Number.{refusalNumber, numberOf}
@@ -26,7 +25,6 @@ use Rattle.signing.specs.Bound.{leftTo, bound}
 use Rattle.signing.specs.Open.{openAnswer, openRead, ifPlan}
 use Rattle.signing.specs.State.{opened}
 use Rattle.signing.specs.declared.JobState.{JobState}
-use Rattle.signing.specs.declared.Answered.{Answered}
 use Rattle.answer.proofs.WasRead.{was-refused, was-read, was-job}
 
 pub zero-at : (n s : ℕ) → getD (zeros n) s 0 ≡ 0
@@ -35,14 +33,10 @@ zero-at (suc n) zero = refl
 zero-at (suc n) (suc s) = zero-at n s
 
 -- where nobody has signed, everybody permitted may do a step
-pub bound-nobody : (j : Job) (may : May) → Satisfiable j (bound may (zeros 12)) → Satisfiable j may
-bound-nobody j may w = satisfiable-mono j (bound may (zeros 12)) may (λ s p l k h. and-first (may s p) _ h) w
-  where
-    and-first : (a b : Bool) → a && b ≡ true → a ≡ true
-    and-first true b h = refl
-    and-first false b h = h
+bound-nobody : (j : Job) (may : May) → Satisfiable j (bound may (zeros 12)) → Satisfiable j may
+bound-nobody j may w = satisfiable-mono j (bound may (zeros 12)) may (λ s p l k h. and-left (may s p) _ h) w
 
-pub nobody-bound : (j : Job) (may : May) → Satisfiable j may → Satisfiable j (bound may (zeros 12))
+nobody-bound : (j : Job) (may : May) → Satisfiable j may → Satisfiable j (bound may (zeros 12))
 nobody-bound j may w = satisfiable-mono j may (bound may (zeros 12)) (λ s p l k h. ap₂ (λ (x : Bool) (n : ℕ). x && leftTo n p) h (zero-at 12 s)) w
 
 module _ (s : List ℕ) (a : Sheet) (e : a ≡ sheetOf s) (j : JobState) where

@@ -10,7 +10,7 @@ use Rattle.sheet.specs.Read.{job, fault, readSheet}
 use Rattle.workflow.specs.Problem.{Plan, Valid, Satisfiable}
 use Rattle.instance.specs.Instance.{instanceIn, mayDo}
 use Rattle.signing.specs.Bound.{isOpen, AgreesWith}
-use Rattle.signing.specs.Open.{unopened}
+use Rattle.signing.specs.Open.{refusedOpening}
 use Rattle.signing.specs.Sign.{refusedSigning, granted}
 use Rattle.signing.specs.State.{opened}
 use Rattle.signing.specs.declared.JobState.{JobState}
@@ -19,9 +19,9 @@ use Rattle.signing.specs.declared.Answered.{Answered}
 -- the opening of the job j with the sheet s
 pub data OpenCase (s : List ℕ) (j : JobState) (r : Answered) : Type 0 where
   -- "opening refuses with 3 to 13 as the crew call does and leaves the job untouched"
-  unreadable : (f c : ℕ) → readSheet s ≡ fault f c → r ≡ unopened f c j → OpenCase s j r
+  unreadable : (f c : ℕ) → readSheet s ≡ fault f c → r ≡ refusedOpening f c j → OpenCase s j r
   planless : (people steps rules : List ℕ) → readSheet s ≡ job people steps rules
-      → (Satisfiable (instanceIn s people steps rules) (mayDo s people steps rules) → ⊥) → r ≡ unopened planFault 0 j → OpenCase s j r
+      → (Satisfiable (instanceIn s people steps rules) (mayDo s people steps rules) → ⊥) → r ≡ refusedOpening planFault 0 j → OpenCase s j r
   -- "A job that has a plan is opened"; "Opening, the first time too, clears signings and count"
   done : (people steps rules : List ℕ) → readSheet s ≡ job people steps rules
       → Satisfiable (instanceIn s people steps rules) (mayDo s people steps rules) → r ≡ record { number = 0; job = opened s } → OpenCase s j r

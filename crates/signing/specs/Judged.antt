@@ -5,6 +5,7 @@ use Prim.Native.Nat.{ℕ}
 use lib.Dec.{eqb}
 use Rattle.answer.specs.Number.{refusalNumber}
 use Rattle.signing.specs.Sign.{counted}
+use Rattle.signing.specs.State.{withCount, withSigners}
 use Rattle.signing.specs.declared.JobState.{JobState}
 use Rattle.signing.specs.declared.Answered.{Answered}
 
@@ -12,8 +13,4 @@ abbrev pub countOn : ℕ → ℕ → ℕ
 countOn n refusal = cond (eqb refusal 0) n (counted n)
 
 abbrev pub concluded : JobState → ℕ → List ℕ → Answered
-concluded j refusal signer =
-    record {
-      number = refusalNumber refusal 0;
-      job = record { refusals = countOn (j .refusals) refusal; «sheet_len» = j .«sheet_len»; sheet = j .sheet; signer = signer };
-    }
+concluded j refusal signer = record { number = refusalNumber refusal 0; job = withSigners (withCount j (countOn (j .refusals) refusal)) signer }

@@ -13,19 +13,19 @@ use Rattle.signing.specs.declared.JobState.{JobState}
 use Rattle.signing.specs.declared.Answered.{Answered}
 
 -- "opening refuses with 3 to 13 as the crew call does and leaves the job untouched"
-abbrev pub unopened : ℕ → ℕ → JobState → Answered
-unopened f c j = record { number = refusalNumber f c; job = j }
+abbrev pub refusedOpening : ℕ → ℕ → JobState → Answered
+refusedOpening f c j = record { number = refusalNumber f c; job = j }
 
 -- "A job that has a plan is opened"
 unfoldable pub ifPlan : List ℕ → JobState → Found → Answered
 ifPlan s j (found plan) = record { number = 0; job = opened s }
-ifPlan s j nothing = unopened planFault 0 j
+ifPlan s j nothing = refusedOpening planFault 0 j
 
 unfoldable pub openRead : JobState → List ℕ → Read → Answered
 openRead j s (job people steps rules) =
     ifPlan s j
     (firstPlan (instanceOf (length people) (length steps) (length rules) (jobOf s people steps rules)) (mayOf (jobOf s people steps rules)))
-openRead j s (fault f c) = unopened f c j
+openRead j s (fault f c) = refusedOpening f c j
 
 -- the opening of a job with a sheet
 abbrev pub openAnswer : JobState → List ℕ → Answered

@@ -13,7 +13,7 @@ use Rattle.workflow.specs.First.{Found, found, nothing, firstPlan}
 use Rattle.instance.specs.Instance.{instanceOf, mayOf}
 use Rattle.answer.specs.Number.{refusalNumber}
 use Rattle.signing.specs.Bound.{isOpen, bound}
-use Rattle.signing.specs.State.{held}
+use Rattle.signing.specs.State.{withCount, withSigners, held}
 use Rattle.signing.specs.declared.JobState.{JobState}
 use Rattle.signing.specs.declared.Answered.{Answered}
 
@@ -30,19 +30,11 @@ counted n = cond (ltb n mostRefusals) (suc n) n
 
 -- "the job then changed in its counter only"; "from 14 on the card is 0"
 abbrev pub refusedSigning : ℕ → JobState → Answered
-refusedSigning f j =
-    record {
-      number = refusalNumber f 0;
-      job = record { refusals = counted (j .refusals); «sheet_len» = j .«sheet_len»; sheet = j .sheet; signer = j .signer };
-    }
+refusedSigning f j = record { number = refusalNumber f 0; job = withCount j (counted (j .refusals)) }
 
 -- "A grant returns 0": step t is signed by person p
 abbrev pub granted : ℕ → ℕ → JobState → Answered
-granted t p j =
-    record {
-      number = 0;
-      job = record { refusals = j .refusals; «sheet_len» = j .«sheet_len»; sheet = j .sheet; signer = set (j .signer) t (suc p) };
-    }
+granted t p j = record { number = 0; job = withSigners j (set (j .signer) t (suc p)) }
 
 -- "It refuses with 14 an unknown step or person, with 15 a signed step, .. tested in that order"; 0 for neither
 abbrev pub firstRefusal : Bool → Bool → ℕ

@@ -8,6 +8,13 @@ use Rattle.sheet.specs.Answer.{zeros}
 use Rattle.sheet.specs.Read.{mostBytes}
 use Rattle.signing.specs.declared.JobState.{JobState}
 
+-- the job with another count, and with other signers
+abbrev pub withCount : JobState → ℕ → JobState
+withCount j n = record { refusals = n; «sheet_len» = j .«sheet_len»; sheet = j .sheet; signer = j .signer }
+
+abbrev pub withSigners : JobState → List ℕ → JobState
+withSigners j signer = record { refusals = j .refusals; «sheet_len» = j .«sheet_len»; sheet = j .sheet; signer = signer }
+
 -- "a job never opened": all bytes are zero
 abbrev pub neverOpened : JobState
 neverOpened = record { refusals = 0; «sheet_len» = 0; sheet = zeros 2256; signer = zeros 12 }

@@ -2,6 +2,7 @@
 use bits::set::has;
 use bits::set::with;
 use bits::sizes::Domains;
+use bits::sizes::MOST_PEOPLE;
 use bits::sizes::MOST_STEPS;
 ghost use mathlib.Core.Path.{_≡_};
 ghost use lib.ListN.{length};
@@ -14,7 +15,7 @@ fn left(mask: u64, signer: u8) -> u64
     if signer == 0 {
         return mask;
     }
-    if signer > 64 {
+    if signer as usize > MOST_PEOPLE {
         return 0;
     }
     let p = signer as usize - 1;

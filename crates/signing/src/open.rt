@@ -30,21 +30,21 @@ pub fn open(job: JobState, sheet: &[u8]) -> Answered
         };
     };
     let unsigned = [0u8; MOST_STEPS];
-    if !can_finish(read.job, people, steps, rules, unsigned) {
+    if can_finish(read.job, people, steps, rules, unsigned) {
+        let len = sheet.len() as u32;
+        let bytes = stored(sheet);
         return Answered {
-            number: returned(PLAN_FAULT, 0),
-            job: job,
+            number: 0,
+            job: JobState {
+                refusals: 0,
+                sheet_len: len,
+                sheet: bytes,
+                signer: unsigned,
+            },
         };
     }
-    let len = sheet.len() as u32;
-    let bytes = stored(sheet);
     Answered {
-        number: 0,
-        job: JobState {
-            refusals: 0,
-            sheet_len: len,
-            sheet: bytes,
-            signer: unsigned,
-        },
+        number: returned(PLAN_FAULT, 0),
+        job: job,
     }
 }

@@ -104,10 +104,12 @@ fn judge(job: JobState, step: u32, person: u32) -> Judged
             signer: earlier,
         };
     }
-    if can_finish(posed, people, steps, rules, with_signer(earlier, t, p)) {
+    let asked = with_signer(earlier, t, p);
+    let more = with_signer(earlier, t, p);
+    if can_finish(posed, people, steps, rules, asked) {
         return Judged {
             refusal: 0,
-            signer: with_signer(earlier, t, p),
+            signer: more,
         };
     }
     Judged {

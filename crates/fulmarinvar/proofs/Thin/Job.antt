@@ -1,7 +1,7 @@
 -- What the thin calls over a job share, whatever they call: the job behind the reference is copied out, and the job of the callee's answer is put in its place.
 --     mach h           a job's machine value
 --     parts            what an answer owns says that its number fits, and what its job owns
---     number, job      what a number and what a job owns is had for nothing
+--     number, job      what a number and what a job owns needs no resource
 --     ref              the MIR type of the parameter `&mut JobState`, which is the local _1. The result is _0
 --     Held, Opened     the reference to a job, at rest and with its borrow opened, at the head of a context
 --     copied           the step over the statement `_k = *_1` (`copy-out k`). It opens the borrow, which stays open over the call

@@ -1,8 +1,8 @@
 -- Each return is one case of `openAnswer`. Assumes nothing.
 use native.Mathlib.Omega.{arith}
 use borrow.Author.Needs.{needs}
-use borrow.Author.Tests.{not-true, not-false}
 use Rattle.bits.proofs.Says.{says-true, says-false}
+use Rattle.sheet.proofs.Readable.{fewer-rules}
 use Rattle.answer.proofs.Returnable.{read-returnable}
 use Rattle.signing.proofs.Opening.{open-refused, sheet-fits, open-none, open-done}
 use Rattle.answer.proofs.WasRead.{was-readable}
@@ -32,17 +32,7 @@ returns : tie.Need-returns
 returns c = open-refused _ _ (c .before .before .before .read-sheet .ensures) _ (c .before .before .match .keys2) _ (c .number .ensures)
 
 can-finish-requires : tie.Need-can-finish-requires
-can-finish-requires c κs = let g = c .before in was-readable _ _ (read g .read-sheet .ensures) _ _ _ (g .reading .given .1)
-
-returned-requires : tie.Need-returned-requires
-returned-requires c κs = search needs
-
-returns-2 : tie.Need-returns-2
-returns-2 c =
-    let f = c .before .before in
-    let g = told f in
-    open-none _ _ (read g .read-sheet .ensures) _ _ _ _ (g .reading .given .1)
-    (says-false (f .can-finish .result) _ (f .can-finish .ensures) (not-true (f .can-finish .result) (c .before .if1 .taken))) _ (c .returned .ensures)
+can-finish-requires c κs = let g = c .before in fewer-rules (was-readable _ _ (read g .read-sheet .ensures) _ _ _ (g .reading .given .1)) (omega arith)
 
 cast-len : tie.Need-cast-len
 cast-len c = let g = told (c .before) in omega (arith, sheet-fits _ _ (read g .read-sheet .ensures) (read g .before .before .args .job) _ _ _ (g .reading .given .1))
@@ -50,12 +40,22 @@ cast-len c = let g = told (c .before) in omega (arith, sheet-fits _ _ (read g .r
 stored-requires : tie.Need-stored-requires
 stored-requires c κs = let g = told (c .before) in sheet-fits _ _ (read g .read-sheet .ensures) (read g .before .before .args .job) _ _ _ (g .reading .given .1)
 
+returns-2 : tie.Need-returns-2
+returns-2 c =
+    let f = c .before .before in
+    let g = told f in
+    open-done _ _ (read g .read-sheet .ensures) _ _ _ _ (g .reading .given .1)
+    (says-true (f .can-finish .result) _ (f .can-finish .ensures) (c .before .if1 .taken)) _ (c .stored .ensures)
+
+returned-requires : tie.Need-returned-requires
+returned-requires c κs = search needs
+
 returns-3 : tie.Need-returns-3
 returns-3 c =
     let f = c .before .before in
     let g = told f in
-    open-done _ _ (read g .read-sheet .ensures) _ _ _ _ (g .reading .given .1)
-    (says-true (f .can-finish .result) _ (f .can-finish .ensures) (not-false (f .can-finish .result) (c .before .if1 .left))) _ (c .stored .ensures)
+    open-none _ _ (read g .read-sheet .ensures) _ _ _ _ (g .reading .given .1)
+    (says-false (f .can-finish .result) _ (f .can-finish .ensures) (c .before .if1 .left)) _ (c .returned .ensures)
 
 pub open-spec : {M : Type 1} → statement M
 open-spec =
@@ -67,8 +67,8 @@ open-spec =
     number-requires
     returns
     can-finish-requires
-    returned-requires
-    returns-2
     cast-len
     stored-requires
+    returns-2
+    returned-requires
     returns-3)

@@ -90,23 +90,23 @@ returns-2 c = let w = known (c .before) in (w .below, sign-refused w (c .if1 .ta
 with-signer-requires : tie.Need-with-signer-requires
 with-signer-requires c κs = on-sheet c
 
-can-finish-requires : tie.Need-can-finish-requires
-can-finish-requires c κs = fewer-rules (known (c .before .before) .readable) (omega arith)
-
 with-signer-requires-2 : tie.Need-with-signer-requires-2
-with-signer-requires-2 c κs = on-sheet (c .before .before .before)
+with-signer-requires-2 c κs = on-sheet (c .before)
+
+can-finish-requires : tie.Need-can-finish-requires
+can-finish-requires c κs = fewer-rules (known (c .before .before .before) .readable) (omega arith)
 
 returns-3 : tie.Need-returns-3
 returns-3 c =
-    let n = c .before .before in let a = n .before in let e = a .before in (
+    let n = c .before in let m = n .before in let a = m .before in let e = a .before in (
       omega arith,
-      sign-granted (known (e .before)) (e .if1 .left) _ _ (a .with-signer .ensures) (c .with-signer2 .ensures)
-          (says-true (n .can-finish .result) _ (n .can-finish .ensures) (c .before .if2 .taken)),
+      sign-granted (known (e .before)) (e .if1 .left) _ _ (a .with-signer .ensures) (m .with-signer2 .ensures)
+          (says-true (n .can-finish .result) _ (n .can-finish .ensures) (c .if2 .taken)),
     )
 
 returns-4 : tie.Need-returns-4
 returns-4 c =
-    let n = c .before in let a = n .before in let e = a .before in (
+    let n = c .before in let a = n .before .before in let e = a .before in (
       omega arith,
       sign-ungranted (known (e .before)) (e .if1 .left) _ (a .with-signer .ensures)
           (says-false (n .can-finish .result) _ (n .can-finish .ensures) (c .if2 .left)),
@@ -128,7 +128,7 @@ judge-spec =
     first-refusal-requires
     returns-2
     with-signer-requires
-    can-finish-requires
     with-signer-requires-2
+    can-finish-requires
     returns-3
     returns-4)
