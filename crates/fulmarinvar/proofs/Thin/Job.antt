@@ -115,13 +115,20 @@ module _ {M : Type 1} {𝓤 : URA M} {H : Heap 𝓤} {A : Atoms 𝓤} {K : Type 
       assigns t (of-opd t (load t (at t e (fld t refl (stop t))) (look-in t 5 (sub t 0 refl (whole t))))) (from t (stop t)) (init t 6 refl (tt, record { fits = parts r v is .0 })) $
       job t (r .job) (parts r v is .1) $ move t (1 ∷ 0 ∷ []) $ closes t tt T.the-row (r .job) (mach (r .job) ∷ []) b o $ next)
 
--- ---- at the routines: from a walk of the caller's MIR, over tables in which the callee meets its contract. env is the caller's environment, own and callee
--- are the two keys
-module _ {M : Type 1} (𝓤 : URA M) (H : Heap 𝓤) (𝓜 : Model 𝓤 H) (𝓖 : GhostRules 𝓤 H) (𝓡 : Running 𝓤 H 𝓜) (env : Env) (Caller Callee : Contract 𝓤) (function : Name → Fn) where
-  pub at-routines : ((callee : Name) (𝓣 : Tables 𝓤 H) → Triple 𝓤 (𝓣 .C callee) Callee → Triple 𝓤 (WpFn 𝓤 H (𝓣 .C) (𝓣 .Λ) (function callee)) Caller)
-      → (own callee : Name) → Closed 𝓤 H (tables 𝓤 H 𝓜 𝓡 env .C) (tables 𝓤 H 𝓜 𝓡 env .Λ) own (function callee)
-      → (routine : Routine) → env callee ≡ routine → Triple 𝓤 (𝓡 .run routine) Callee → Triple 𝓤 (𝓡 .run (env own)) Caller
-  unfolding tablesOf
-  at-routines walk own callee unfolded routine calls met =
-      entered 𝓤 H Caller (tables 𝓤 H 𝓜 𝓡 env .C) (tables 𝓤 H 𝓜 𝓡 env .Λ) own (function callee) unfolded
-      (walk callee (tablesOf 𝓤 H 𝓜 (tables 𝓤 H 𝓜 𝓡 env)) (cited 𝓤 H Callee 𝓜 𝓡 env callee routine calls met))
+-- ---- from a walk of the caller's MIR, over tables in which the callee meets its contract, to the routines. env is the caller's environment, own and
+-- callee are the two keys
+module _ {M : Type 1} (𝓤 : URA M) (H : Heap 𝓤) (Caller Callee : Contract 𝓤) (function : Name → Fn) where
+  abbrev pub FromWalk : Type 2
+  FromWalk = (callee : Name) (𝓣 : Tables 𝓤 H) → Triple 𝓤 (𝓣 .C callee) Callee → Triple 𝓤 (WpFn 𝓤 H (𝓣 .C) (𝓣 .Λ) (function callee)) Caller
+
+  module _ (𝓜 : Model 𝓤 H) (𝓖 : GhostRules 𝓤 H) (𝓡 : Running 𝓤 H 𝓜) (env : Env) where
+    abbrev pub AtRoutines : Type 2
+    AtRoutines =
+        (own callee : Name) → Closed 𝓤 H (tables 𝓤 H 𝓜 𝓡 env .C) (tables 𝓤 H 𝓜 𝓡 env .Λ) own (function callee)
+        → (routine : Routine) → env callee ≡ routine → Triple 𝓤 (𝓡 .run routine) Callee → Triple 𝓤 (𝓡 .run (env own)) Caller
+
+    pub at-routines : FromWalk → AtRoutines
+    unfolding tablesOf
+    at-routines walk own callee unfolded routine calls met =
+        entered 𝓤 H Caller (tables 𝓤 H 𝓜 𝓡 env .C) (tables 𝓤 H 𝓜 𝓡 env .Λ) own (function callee) unfolded
+        (walk callee (tablesOf 𝓤 H 𝓜 (tables 𝓤 H 𝓜 𝓡 env)) (cited 𝓤 H Callee 𝓜 𝓡 env callee routine calls met))

@@ -17,12 +17,12 @@ use mir.Syntax.{Name, Fn, local, valueLocal, named, imm, w8, w32, tyInt, tyRef, 
 use mir.Val.{Val, vint, vptr}
 use base.Logic.{SProp, ent, emp, via, fst∗, snd∗, exE, id⊢}
 use base.Fml.{GName, Lft, Share, Fml, ftrue, flft}
-use prog.Routine.{Routine, Env}
+use prog.Routine.{Env}
 use prog.Model.{Model}
-use prog.Wp.{Heap, Calls, Loops, WpFn, Closed, Tables}
+use prog.Wp.{Heap, Calls, Loops, WpFn}
 use ghost.Atoms.{Atoms, sem}
 use contract.Monad.{fact}
-use contract.Running.{Running, GhostRules, givenOf, tables}
+use contract.Running.{Running, GhostRules, givenOf}
 use types.Kit.{Given, Item, ‵, raw, _⊛_, some, later, ⋆, _$_, _∵_, !, qed, by, move, keep, drop, use1, use2, split, join, pick, fsplit, fsplit3, fjoin, fjoin3, feqI, suffices, frame, await, done}
 use types.Run.{look, init, forget, stop, from, load, and-then, no-more, returns, enter, alloc1, alloc0, params1, pass1, pass0, free1, free0}
 use sound.WpLaws.{FmC, fmOf, WpFn-mono}
@@ -46,7 +46,7 @@ use Rattle.signing.proofs.JobState as T
 use Rattle.signing.proofs.JobState.Laws as T′
 use Rattle.signing.proofs.Answered as R
 use Rattle.signing.proofs.Answered.Laws as R′
-use Rattle.fulmarinvar.proofs.Thin.Job.{mach, parts, number, job, ref, Held, copy-out, put-back, copied, put, at-routines}
+use Rattle.fulmarinvar.proofs.Thin.Job.{mach, parts, number, job, ref, Held, copy-out, put-back, copied, put, FromWalk, AtRoutines, at-routines}
 
 -- ---- the caller
 abbrev pub function : Name → Fn
@@ -173,15 +173,11 @@ module _ (answer : Answers) (Promise : Promised) (keeps : (h : JobState) (s : Li
     goes : AllGo 𝓤 H A W 2 (ended .signature .params) (ended .kept) stayed
     goes = (goes-ref 𝓤 H A W 2 0 tt (plain (λ _. T.the-row)), (goes-none-slice 𝓤 H A W 2 (1 ∷ []) tt (plain (λ _. u8)) yes, tt))
 
-    from-walk : (callee : Name) (𝓣 : Tables 𝓤 H) → Triple 𝓤 (𝓣 .C callee) (Callee 𝓤 H A answer)
-        → Triple 𝓤 (WpFn 𝓤 H (𝓣 .C) (𝓣 .Λ) (function callee)) (Caller 𝓤 H A Promise)
+    from-walk : FromWalk 𝓤 H (Caller 𝓤 H A Promise) (Callee 𝓤 H A answer) function
     from-walk callee 𝓣 known =
         walk-meets 𝓤 H A ended stayed W goes (clauses 𝓤 Promise) (WpFn 𝓤 H (𝓣 .C) (𝓣 .Λ) (function callee)) (WpFn-mono 𝓤 H (W .laws) 𝓣 (function callee))
         (walks callee (𝓣 .C) (𝓣 .Λ) (fmOf 𝓤 H (W .laws) 𝓣) known)
 
-  -- ---- at the routines: env is the caller's environment, and own and callee are the two keys
   module _ {M : Type 1} (𝓤 : URA M) (H : Heap 𝓤) (𝓜 : Model 𝓤 H) (𝓖 : GhostRules 𝓤 H) (𝓡 : Running 𝓤 H 𝓜) (env : Env) where
-    pub meets : (own callee : Name) → Closed 𝓤 H (tables 𝓤 H 𝓜 𝓡 env .C) (tables 𝓤 H 𝓜 𝓡 env .Λ) own (function callee)
-        → (routine : Routine) → env callee ≡ routine → Triple 𝓤 (𝓡 .run routine) (Callee 𝓤 H (𝓖 .A) answer) → Triple 𝓤 (𝓡 .run (env own)) (Caller 𝓤 H (𝓖 .A) Promise)
-    meets =
-        at-routines 𝓤 H 𝓜 𝓖 𝓡 env (Caller 𝓤 H (𝓖 .A) Promise) (Callee 𝓤 H (𝓖 .A) answer) function (from-walk 𝓤 H (𝓖 .A) (givenOf 𝓤 H 𝓜 𝓖))
+    pub meets : AtRoutines 𝓤 H (Caller 𝓤 H (𝓖 .A) Promise) (Callee 𝓤 H (𝓖 .A) answer) function 𝓜 𝓖 𝓡 env
+    meets = at-routines 𝓤 H _ _ function 𝓜 𝓖 𝓡 env (from-walk 𝓤 H (𝓖 .A) (givenOf 𝓤 H 𝓜 𝓖))
