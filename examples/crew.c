@@ -6,19 +6,44 @@
 #include "sheet.h"
 
 #include <inttypes.h>
+#include <stdbool.h>
 #include <stdio.h>
 
-static uint32_t get32(const uint8_t *at) {
-    return at[0] | (uint32_t)at[1] << 8 | (uint32_t)at[2] << 16 | (uint32_t)at[3] << 24;
-}
+enum { STEPS = 3, CAP = 2 };
 
 static int refused(uint32_t number) {
     printf("REFUSED %" PRIu32 " CARD %" PRIu32 "\n", FULMARINVAR_REFUSAL(number), FULMARINVAR_CARD(number));
     return 1;
 }
 
+/* Step j has its own tag, then that of the person who does it. */
+static const uint8_t *step_of(const uint8_t *crew, int j) {
+    return crew + FULMARINVAR_STEP_BYTES * j;
+}
+
+static bool is_among(uint32_t class, const uint32_t *met, int count) {
+    int k = 0;
+    while (k < count && met[k] != class) {
+        k++;
+    }
+    return k < count;
+}
+
+/* How many different classes of the rule's level are among the people given to the steps of its scope. */
+static int rule_count(const struct sheet *sheet, const uint8_t *rule_card, const uint8_t *crew) {
+    uint32_t met[STEPS];
+    int count = 0;
+    for (int j = 0; j < STEPS; j++) {
+        bool in_scope = get16(rule_card + 6) >> j & 1;
+        uint32_t class = class_of(sheet, get32(step_of(crew, j) + 4), rule_card[4]);
+        if (in_scope && !is_among(class, met, count)) {
+            met[count++] = class;
+        }
+    }
+    return count;
+}
+
 int main(void) {
-    enum { STEPS = 3, CAP = 2 };
     struct sheet w;
     sheet_w(&w);
 
@@ -35,8 +60,7 @@ int main(void) {
 
     printf("PLAN %d\n", STEPS);
     for (int j = 0; j < STEPS; j++) {
-        const uint8_t *at = crew + FULMARINVAR_STEP_BYTES * j;
-        printf("%" PRIu32 " %" PRIu32 "\n", get32(at), get32(at + 4));
+        printf("%" PRIu32 " %" PRIu32 "\n", get32(step_of(crew, j)), get32(step_of(crew, j) + 4));
     }
     printf("SPARE %d OF %d\n", spare[0], CAP);
     if (spare[0] < CAP) {
@@ -45,6 +69,9 @@ int main(void) {
             printf(" %" PRIu32, get32(spare + 4 + 4 * k));
         }
         printf("\n");
+    }
+    for (const uint8_t *at = first_card(&w, RULE); at; at = next_card(&w, at)) {
+        printf("RULE %d %d %d %d\n", at[1], at[4], at[5], rule_count(&w, at, crew));
     }
     return 0;
 }

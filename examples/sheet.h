@@ -1,4 +1,4 @@
-/* Makes sheets card by card, and sheet W, on which the examples work. */
+/* Makes sheets card by card, and sheet W, on which the examples work; reads what a host wants of its own sheet. */
 #ifndef SHEET_H
 #define SHEET_H
 
@@ -25,6 +25,14 @@ static inline void put16(uint8_t *at, uint16_t value) {
 static inline void put32(uint8_t *at, uint32_t value) {
     put16(at, (uint16_t)value);
     put16(at + 2, (uint16_t)(value >> 16));
+}
+
+static inline uint16_t get16(const uint8_t *at) {
+    return (uint16_t)(at[0] | at[1] << 8);
+}
+
+static inline uint32_t get32(const uint8_t *at) {
+    return get16(at) | (uint32_t)get16(at + 2) << 16;
 }
 
 static inline uint8_t *card(struct sheet *sheet, uint16_t index) {
@@ -74,6 +82,35 @@ static inline void rule(struct sheet *sheet, uint8_t kind, uint8_t level, uint8_
 /* The bytes of the cards laid so far. */
 static inline size_t sheet_length(const struct sheet *sheet) {
     return (size_t)FULMARINVAR_CARD_BYTES * sheet->cards;
+}
+
+/* The card whose index stands there; 0 ends a chain. */
+static inline const uint8_t *card_named(const struct sheet *sheet, const uint8_t *index) {
+    return get16(index) ? sheet->bytes + FULMARINVAR_CARD_BYTES * get16(index) : NULL;
+}
+
+static inline const uint8_t *first_card(const struct sheet *sheet, uint8_t kind) {
+    return card_named(sheet, sheet->bytes + 2 * kind);
+}
+
+static inline const uint8_t *next_card(const struct sheet *sheet, const uint8_t *at) {
+    return card_named(sheet, at + 2);
+}
+
+/* The class at a level of the person with this tag, who is on the sheet. */
+static inline uint32_t class_of(const struct sheet *sheet, uint32_t tag, uint8_t level) {
+    const uint8_t *at = first_card(sheet, PERSON);
+    while (get32(at + 4) != tag) {
+        at = next_card(sheet, at);
+    }
+    switch (level) {
+    case BY_SHOP:
+        return get16(at + 8);
+    case BY_BENCH:
+        return get16(at + 10);
+    default:
+        return tag;
+    }
 }
 
 /* Sheet W of the paper: 10 and 20 at the same bench, 20 and 30 in the same shop and by different people. */

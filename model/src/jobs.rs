@@ -4,8 +4,10 @@ use crate::builder::{lay, lay_at, person, rule, step, Draft};
 use crate::job::{
     has_limit, Job, Rule, AT_LEAST, AT_MOST, BY_PERSON, BY_SHOP, MOST_PEOPLE, MOST_RULES, MOST_STEPS, SAME,
 };
+use crate::plans::{is_met, Plan};
 use crate::random::Random;
 use std::collections::{HashMap, HashSet};
+use std::iter::repeat_with;
 
 /// A size up to `most`, mostly small, sometimes the largest.
 fn size(random: &mut Random, least: usize, most: usize) -> usize {
@@ -119,6 +121,20 @@ pub fn lopsided_job(random: &mut Random) -> Job {
     mixed_job(random, people, steps)
 }
 
+/// A job of the given size, two steps or more, that has a plan: one is drawn first, and each rule is met by it.
+pub fn planned_job(random: &mut Random, people: usize, steps: usize, rules: usize) -> Job {
+    let mut job = mixed_job(random, people, steps);
+    let plan: Plan = (0..steps).map(|_| random.below(people)).collect();
+    for (step, &person) in plan.iter().enumerate() {
+        job.people[person].permitted |= 1 << step;
+    }
+    // The draw ends: there are no more classes in a scope than steps, so an "at most" whose limit is all its steps is always
+    // met, and at least one rule in 48 is such: one kind of four, one limit of at most twelve.
+    let any_rule = repeat_with(|| random_rule(random, steps));
+    let rules = any_rule.filter(|rule| is_met(&job, rule, &plan)).take(rules).collect();
+    Job { rules, ..job }
+}
+
 /// The job's sheet, its cards in some order; now and then in that of the chains.
 pub fn laid(random: &mut Random, job: &Job) -> Draft {
     if random.once_in(4) {
@@ -131,7 +147,7 @@ pub fn laid(random: &mut Random, job: &Job) -> Draft {
 #[cfg(test)]
 mod tests {
     use super::*;
-    use crate::plans::{is_small, spare};
+    use crate::plans::{first_plan, is_small, spare};
     use crate::reader::read;
     use std::collections::BTreeSet;
 
@@ -142,6 +158,28 @@ mod tests {
             let job = if k % 2 == 0 { small_job(&mut random) } else { lopsided_job(&mut random) };
             assert!(is_small(&job));
             assert_eq!(read(&laid(&mut random, &job).bytes), Ok(job));
+        }
+    }
+
+    #[test]
+    fn rules_that_are_always_met_are_drawn() {
+        let mut random = Random::new(7);
+        let at_most_all = |rule: Rule| rule.kind == AT_MOST && u32::from(rule.limit) == rule.scope.count_ones();
+        for steps in 2..=MOST_STEPS {
+            assert!((0..1_000).any(|_| at_most_all(random_rule(&mut random, steps))), "{steps} steps");
+        }
+    }
+
+    #[test]
+    fn planned_jobs_have_a_plan_however_many_rules() {
+        let mut random = Random::new(6);
+        for rules in [0, 1, 7, MOST_RULES] {
+            for (people, steps) in [(1, 2), (6, 5), (MOST_PEOPLE, 2), (2, MOST_STEPS)] {
+                let job = planned_job(&mut random, people, steps, rules);
+                assert_eq!((job.people.len(), job.steps.len(), job.rules.len()), (people, steps, rules));
+                assert_eq!(read(&lay(&job).bytes).as_ref(), Ok(&job));
+                assert!(first_plan(&job, &[]).is_some());
+            }
         }
     }
 

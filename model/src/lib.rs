@@ -1,6 +1,6 @@
-//! What the papers say, in Rust: a model of the card reader, a brute force for crews, spare counts and signings, sheets built
-//! from jobs, and jobs by recipe or at random. Nothing here is taken from the library; its calls are bound under the feature
-//! `library`.
+//! What the papers say, in Rust: a model of the card reader, a brute force for crews, spare counts and signings, the listing of
+//! the planning program, sheets built from jobs, and jobs by recipe or at random. Nothing here is taken from the library; its
+//! calls are bound under the feature `library`.
 
 pub mod answers;
 pub mod builder;
@@ -10,6 +10,7 @@ pub mod job;
 pub mod jobs;
 #[cfg(feature = "library")]
 pub mod library;
+pub mod listing;
 pub mod plans;
 pub mod random;
 pub mod reader;

@@ -26,7 +26,8 @@ pub fn count(job: &Job, rule: &Rule, plan: &[usize]) -> usize {
     classes.len()
 }
 
-fn is_met(job: &Job, rule: &Rule, plan: &[usize]) -> bool {
+/// What a rule asks for is asked of its count alone.
+pub fn is_met(job: &Job, rule: &Rule, plan: &[usize]) -> bool {
     let count = count(job, rule, plan);
     match rule.kind {
         SAME => count == 1,

@@ -158,7 +158,7 @@ pub fn read(sheet: &[u8]) -> Result<Job, Refusal> {
 pub fn text(answer: &Result<Job, Refusal>) -> String {
     match answer {
         Ok(job) => format!("READ {} {} {}", job.people.len(), job.steps.len(), job.rules.len()),
-        Err(refusal) => format!("REFUSED {} CARD {}", refusal.number, refusal.card),
+        Err(refusal) => refusal.to_string(),
     }
 }
 

@@ -1,5 +1,7 @@
 //! What is refused, by number, and at which card. The names are those of the C header.
 
+use std::fmt;
+
 pub const SHORT_ANSWER: u32 = 1;
 pub const CAP_TOO_HIGH: u32 = 2;
 pub const BAD_LENGTH: u32 = 3;
@@ -36,6 +38,13 @@ impl Refusal {
     /// The refusal that a call has returned, if it is one.
     pub fn of(returned: u32) -> Option<Refusal> {
         (returned != 0).then_some(Refusal { number: returned / 256, card: returned as usize % 256 })
+    }
+}
+
+/// As the programs print it.
+impl fmt::Display for Refusal {
+    fn fmt(&self, out: &mut fmt::Formatter) -> fmt::Result {
+        write!(out, "REFUSED {} CARD {}", self.number, self.card)
     }
 }
 

@@ -1,8 +1,10 @@
-//! Tests of the reader and of the calls: sheets to try with what the paper says of them, random sheets, and random histories of
-//! jobs under work.
+//! Tests of the reader, of the calls and of the planning program: sheets to try with what the paper says of them, random sheets,
+//! and random histories of jobs under work.
 
 pub mod calls;
 pub mod cases;
+pub mod files;
+pub mod listings;
 pub mod numbers;
 pub mod order;
 pub mod records;

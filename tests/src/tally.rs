@@ -27,8 +27,16 @@ impl Tally {
 
     /// What never came up was not tried: each of these outcomes that is missing is a failure.
     pub fn want(&mut self, outcomes: impl IntoIterator<Item = String>) {
-        for outcome in outcomes.into_iter().filter(|outcome| !self.met.contains_key(outcome)) {
-            println!("FAILED, never met: {outcome}");
+        for outcome in outcomes {
+            self.want_times(1, &outcome);
+        }
+    }
+
+    /// The same of an outcome that came up less often than this.
+    pub fn want_times(&mut self, least: u64, outcome: &str) {
+        let times = self.met.get(outcome).copied().unwrap_or(0);
+        if times < least {
+            println!("FAILED, met {times} of {least} times: {outcome}");
             self.failed += 1;
         }
     }
@@ -62,5 +70,22 @@ impl Tally {
             return ExitCode::FAILURE;
         }
         ExitCode::SUCCESS
+    }
+}
+
+#[cfg(test)]
+mod tests {
+    use super::*;
+
+    #[test]
+    fn what_came_up_too_seldom_is_a_failure() {
+        let mut tally = Tally::new("tally", 1);
+        (0..3).for_each(|_| tally.count("seen".to_string()));
+        tally.want(["seen".to_string()]);
+        tally.want_times(3, "seen");
+        assert_eq!(tally.failed, 0);
+        tally.want_times(4, "seen");
+        tally.want(["never seen".to_string()]);
+        assert_eq!(tally.failed, 2);
     }
 }

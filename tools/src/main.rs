@@ -19,10 +19,7 @@ fn pack(input: Vec<u8>) -> Result<Vec<u8>, String> {
 }
 
 fn show(input: Vec<u8>) -> Result<Vec<u8>, String> {
-    match sheet::show::show(&input) {
-        Ok(text) => Ok(text.into_bytes()),
-        Err(refusal) => Err(format!("REFUSED {} CARD {}", refusal.number, refusal.card)),
-    }
+    sheet::show::show(&input).map(String::into_bytes).map_err(|refusal| refusal.to_string())
 }
 
 fn run(turn: fn(Vec<u8>) -> Result<Vec<u8>, String>) -> Result<(), String> {

@@ -1,31 +1,28 @@
--- The end of a search: domains of one person each, and what the tests of the rules say of their plan. Assumes nothing.
-use mathlib.Core.Bool.{true, false}
+-- The end of a search: domains of one person each, and what the counts of the rules say of their plan. Assumes nothing.
+use mathlib.Core.Bool.{Bool, true, false}
 use mathlib.Core.List.{List}
 use mathlib.Core.Path.{_≡_, sym, subst, _∙_}
 use Prim.Native.Nat.{ℕ, _+_, _≤_, _<_}
 use native.Mathlib.Omega.{arith}
+use lib.Dec.{eqb}
 use lib.ListN.{length, getD, set, length-set}
 use lib.Seq.{getD-set-same, getD-set-other}
-use lib.Count.{ones}
 use borrow.Author.Tests.{eqb-true, eqb-false}
-use lib.Dec.{eqb}
+use Rattle.bits.specs.Says.{Says}
 use Rattle.bits.specs.Word.{hasBit}
 use Rattle.bits.proofs.Below.{by-cases, below-suc}
+use Rattle.bits.proofs.Says.{says-of, says-true, says-false}
 use Rattle.bits.proofs.SetLaws.{empty-lacks}
-use Rattle.workflow.specs.Problem.{Job, Rule, Plan, Valid, classCount}
-use Rattle.pattern.specs.Rule.{levelIn, leastIn, mostIn, scopeIn, unpacked}
-use Rattle.pattern.specs.Tables.{mayIn, planIn}
-use Rattle.narrow.specs.Domains.{Takes}
-use Rattle.narrow.specs.Fixing.{Fixing}
-use Rattle.narrow.proofs.Ruling.{SettledRule, heads-count}
-use Rattle.narrow.proofs.Settling.{settled-count}
-use Rattle.backtrack.specs.Trial.{Judged, JudgedRule, Alone, TakesFirst, Trial}
-use Rattle.backtrack.specs.declared.Tried.{Tried}
-use Rattle.backtrack.specs.declared.Tried.the-variants.{Found, Unsatisfiable, Tired}
-
--- a valid plan takes people of the domains
-pub valid-takes : (j : Job) (dom : List ℕ) (π : Plan) → Valid j (mayIn dom) π → Takes (j .steps) (j .people) dom π
-valid-takes j dom π v = record { within = v .within; among = v .authorised }
+use Rattle.workflow.specs.Problem.{Job, Rule, Plan, Agree, OfPeople, Met, Valid, classCount}
+use Rattle.workflow.proofs.Valid.{valid-agree}
+use Rattle.pattern.specs.declared.Size.{Size}
+use Rattle.pattern.specs.Eligible.{CanBeMet}
+use Rattle.pattern.specs.Given.{Given}
+use Rattle.pattern.specs.Tables.{mayIn, planIn, ruleIn, jobIn}
+use Rattle.eligible.specs.Classes.{ForJobs}
+use Rattle.eligible.proofs.Names.{rule-at}
+use Rattle.backtrack.specs.Trial.{MeetsAll, Alone, TakesFirst, Trial}
+use Rattle.backtrack.specs.declared.Tried.the-variants.{Found, Unsatisfiable}
 
 -- a plan taken from the domains, one step more
 pub first-none : {people : ℕ} {dom plan : List ℕ} → length plan ≡ 12 → TakesFirst people 0 dom plan
@@ -53,64 +50,50 @@ first-more {people} {n} {p} {dom} {plan} w l m h =
 pub first-all : {people n steps : ℕ} {dom plan : List ℕ} → steps ≤ n → TakesFirst people n dom plan → TakesFirst people steps dom plan
 first-all l w = record { sized = w .sized; within = λ s b. w .within s (omega arith); among = λ s b. w .among s (omega arith) }
 
--- what the count says of a rule whose steps are all settled
-module _ {j : Job} {r : ℕ} {dom : List ℕ} {used heads wide : ℕ} (w : SettledRule j r dom used heads wide) (none-wide : wide ≡ 0) where
-  -- the count in every plan of the domains
-  its-count : (π : Plan) → Takes (j .steps) (j .people) dom π → ones heads ≡ classCount j (unpacked r) π
-  its-count π t =
-      heads-count w
-      ∙ settled-count (subst (λ (x : ℕ). Fixing (j .steps) (j .people) (j .class (levelIn r)) (scopeIn r) dom 0 used heads x) none-wide (w .fixing)) π t
+-- a rule is met exactly where it can be met with its count and nothing more
+pub met-says : (j : Job) (r : Rule) (π : Plan) (n : ℕ) (a : Bool) → n ≡ classCount j r π → Says a (CanBeMet r n 0) → Says a (Met j r π)
+met-says j r π n a e h =
+    says-of a (Met j r π)
+    (λ t. let w = says-true a (CanBeMet r n 0) h t in record { least = omega (arith, w .least); most = omega (arith, w .most) })
+    (λ t m. says-false a (CanBeMet r n 0) h t (record { least = omega (arith, m .least); most = omega (arith, m .most) }))
 
-  pub judged-most : mostIn r < ones heads → JudgedRule j (unpacked r) dom Unsatisfiable
-  unfolding JudgedRule
-  judged-most l π t m = omega (arith, its-count π t, m .most)
+module _ (crowd rule plan : List ℕ) where
+  -- the first n rules are met by the plan, in every job of these arrays
+  abbrev pub MetBelow : ℕ → Type 0
+  MetBelow n = (size : Size) → Given size crowd rule → n ≤ size .rules → OfPeople (jobIn size crowd rule) (planIn plan)
+      → (i : ℕ) → i < n → Met (jobIn size crowd rule) (ruleIn rule i) (planIn plan)
 
-  pub judged-least : ones heads < leastIn r → JudgedRule j (unpacked r) dom Unsatisfiable
-  unfolding JudgedRule
-  judged-least l π t m = omega (arith, its-count π t, m .least)
+  -- what is said of rule n, in every job that can have it
+  abbrev RuleSays : ℕ → Bool → Type 0
+  RuleSays n a = ForJobs crowd (getD rule n 0) (λ j. OfPeople j (planIn plan) → Says a (Met j (ruleIn rule n) (planIn plan)))
 
-  pub judged-met : ones heads ≤ mostIn r → leastIn r ≤ ones heads → JudgedRule j (unpacked r) dom Found
-  unfolding JudgedRule
-  judged-met a b π t = let e = its-count π t in record { least = omega arith; most = omega arith }
+  pub met-more : (n : ℕ) (a : Bool) → MetBelow n → RuleSays n a → a ≡ true → MetBelow (n + 1)
+  met-more n a w says t size g l within i b =
+      below-suc n i (omega arith) (λ m. w size g (omega arith) within i m)
+      (λ e. rw e (says-true a _ (says size rule (rule-at g n (omega arith)) within) t))
 
-pub rule-tired : (j : Job) (r : Rule) (dom : List ℕ) → JudgedRule j r dom Tired
-unfolding JudgedRule
-rule-tired j r dom = tt
+  pub met-fails : (n : ℕ) (a : Bool) → RuleSays n a → a ≡ false → (size : Size) → Given size crowd rule → n < size .rules
+      → MeetsAll (jobIn size crowd rule) (size .rules) (planIn plan) false
+  met-fails n a says t size g l within all = says-false a _ (says size rule (rule-at g n l) within) t (all n l)
 
--- one rule more is judged
-pub judged-none : (j : Job) (dom : List ℕ) → Judged j 0 dom Found
-unfolding Judged
-judged-none j dom i l = absurd (omega arith)
+-- ---- what the tests say of the plan taken
 
-pub judged-more : (j : Job) (n : ℕ) (dom : List ℕ) → Judged j n dom Found → JudgedRule j (j .rule n) dom Found → Judged j (n + 1) dom Found
-unfolding Judged JudgedRule
-judged-more j n dom w x i l π t = below-suc n i (omega arith) (λ b. w i b π t) (λ e. rw e (x π t))
+module _ (j : Job) (dom plan : List ℕ) (a : Alone (j .steps) 0 dom) (t : TakesFirst (j .people) (j .steps) dom plan) where
+  -- there is no other plan of the domains
+  only : (σ : Plan) → Valid j (mayIn dom) σ → Agree (j .steps) σ (planIn plan)
+  only σ v s l = a .one s _ _ l (empty-lacks s) (v .authorised s l) (t .among s l)
 
-pub judged-lost : (j : Job) (n : ℕ) (dom : List ℕ) → n < j .rules → JudgedRule j (j .rule n) dom Unsatisfiable → Judged j (j .rules) dom Unsatisfiable
-unfolding Judged JudgedRule
-judged-lost j n dom l x (π, v) = x π (valid-takes j dom π v) (v .eligible n l)
+  pub ended-found : (a : Bool) → MeetsAll j (j .rules) (planIn plan) a → a ≡ true → Trial true j dom plan Found
+  unfolding Trial
+  ended-found a met e =
+      record {
+        valid = record { within = t .within; authorised = t .among; eligible = says-true a _ (met (t .within)) e };
+        first = λ wanted σ v e.
+            let x : σ (e .at) ≡ planIn plan (e .at) = only σ v (e .at) (e .below) in
+            let y : σ (e .at) < planIn plan (e .at) = e .less in
+            omega arith;
+      }
 
-pub judged-tired : (j : Job) (n : ℕ) (dom : List ℕ) → Judged j n dom Tired
-unfolding Judged
-judged-tired j n dom = tt
-
-pub judged-all : (j : Job) (n : ℕ) (dom : List ℕ) → n ≡ j .rules → Judged j n dom Found → Judged j (j .rules) dom Found
-judged-all j n dom e w = subst (λ (k : ℕ). Judged j k dom Found) e w
-
--- what the tests say of the plan taken
-pub ended : (j : Job) (dom plan : List ℕ) → Alone (j .steps) 0 dom → TakesFirst (j .people) (j .steps) dom plan → (o : Tried) → Judged j (j .rules) dom o → Trial true j dom plan o
-unfolding Judged Trial
-ended j dom plan a t Found w =
-    record {
-      valid = record {
-        within = t .within;
-        authorised = t .among;
-        eligible = λ i l. w i l (planIn plan) (record { within = t .within; among = t .among });
-      };
-      first = λ wanted σ v e.
-          let x : σ (e .at) ≡ planIn plan (e .at) = a .one (e .at) _ _ (e .below) (empty-lacks (e .at)) (v .authorised (e .at) (e .below)) (t .among (e .at) (e .below)) in
-          let y : σ (e .at) < planIn plan (e .at) = e .less in
-          omega arith;
-    }
-ended j dom plan a t Unsatisfiable w = w
-ended j dom plan a t Tired w = tt
+  pub ended-none : (a : Bool) → MeetsAll j (j .rules) (planIn plan) a → a ≡ false → Trial true j dom plan Unsatisfiable
+  unfolding Trial
+  ended-none a met e (σ, v) = says-false a _ (met (t .within)) e (valid-agree j (mayIn dom) σ (planIn plan) (only σ v) v .eligible)

@@ -4,25 +4,17 @@ use mathlib.Core.List.{List}
 use mathlib.Core.Path.{_≡_}
 use Prim.Native.Nat.{ℕ, _*_, _%_, _^_, _<_}
 use lib.ListN.{length, set}
+use Rattle.bits.specs.Says.{Says}
 use Rattle.bits.specs.Word.{hasBit}
-use Rattle.workflow.specs.Problem.{Job, Rule, May, Plan, Met, Valid, Satisfiable}
+use Rattle.workflow.specs.Problem.{Job, May, Plan, OfPeople, Met, Valid, Satisfiable}
 use Rattle.workflow.specs.First.{Earlier}
 use Rattle.pattern.specs.Tables.{mayIn, planIn}
-use Rattle.narrow.specs.Domains.{Takes}
 use Rattle.backtrack.specs.declared.Tried.{Tried}
 use Rattle.backtrack.specs.declared.Tried.the-variants.{Found, Unsatisfiable, Tired}
 
--- what is known of the first n rules: every plan of the domains meets them, or none meets them all, or nothing
-unfoldable pub Judged : Job → ℕ → List ℕ → Tried → Type 0
-Judged j n dom Found = (i : ℕ) → i < n → (π : Plan) → Takes (j .steps) (j .people) dom π → Met j (j .rule i) π
-Judged j n dom Unsatisfiable = Satisfiable j (mayIn dom) → ⊥
-Judged j n dom Tired = Unit {0}
-
--- what is known of one rule
-unfoldable pub JudgedRule : Job → Rule → List ℕ → Tried → Type 0
-JudgedRule j r dom Found = (π : Plan) → Takes (j .steps) (j .people) dom π → Met j r π
-JudgedRule j r dom Unsatisfiable = (π : Plan) → Takes (j .steps) (j .people) dom π → Met j r π → ⊥
-JudgedRule j r dom Tired = Unit {0}
+-- whether a plan that gives each step one of the people meets the first n rules
+abbrev pub MeetsAll : Job → ℕ → Plan → Bool → Type 0
+MeetsAll j n π r = OfPeople j π → Says r ((i : ℕ) → i < n → Met j (j .rule i) π)
 
 -- step s is left to person p alone
 abbrev pub pinned : List ℕ → ℕ → ℕ → List ℕ

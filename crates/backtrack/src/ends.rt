@@ -5,62 +5,20 @@ use bits::sizes::Crowds;
 use bits::sizes::Domains;
 use bits::sizes::Plan;
 use bits::sizes::Rules;
-use bits::small;
-use narrow::fixed::fixed;
+use eligible::plan::plan_count;
 use pattern::Size;
 use pattern::rule;
 ghost use mathlib.Core.Bool.{true};
 ghost use mathlib.Core.Path.{_≡_};
 ghost use Prim.Native.Nat.{_<_, _≤_};
 ghost use lib.ListN.{length};
+ghost use Rattle.bits.specs.Says.{Says};
+ghost use Rattle.workflow.specs.Problem.{OfPeople, Met};
 ghost use Rattle.pattern.specs.Rule.{levelIn, scopeIn, unpacked};
-ghost use Rattle.pattern.specs.Tables.{jobIn};
+ghost use Rattle.pattern.specs.Tables.{jobIn, planIn};
 ghost use Rattle.pattern.specs.Given.{Given};
-ghost use Rattle.narrow.specs.Domains.{OneLevel, ForJobs};
-ghost use Rattle.backtrack.specs.Trial.{Judged, JudgedRule, Alone, TakesFirst, Trial};
-
-// Whether a rule is met by every plan of the domains, or by none; where they leave its count open, nothing is
-// said.
-fn judge(crowd: &Crowds, r: u32, dom: &Domains) -> Tried
-    requires { ⌜ OneLevel (now crowd) (levelIn r) × (scopeIn r < 4096) × (length (now dom) ≡ 12) ⌝ }
-    ensures { λ a. ⌜ ForJobs (now (crowd .entry)) r (λ j. JudgedRule j (unpacked r) (now (dom .entry)) a) ⌝ }
-{
-    let all = fixed(crowd, rule::level(r), rule::scope(r), dom);
-    if all.wide != 0 {
-        return Tried::Tired;
-    }
-    let groups = small::size(all.heads);
-    if groups > rule::most(r) {
-        return Tried::Unsatisfiable;
-    }
-    if groups < rule::least(r) {
-        return Tried::Unsatisfiable;
-    }
-    Tried::Found
-}
-
-// The same of all rules.
-fn judge_all(size: Size, crowd: &Crowds, rule: &Rules, dom: &Domains) -> Tried
-    requires { ⌜ Given size (now crowd) (now rule) × (length (now dom) ≡ 12) ⌝ }
-    ensures { λ r. ⌜ Judged (jobIn size (now (crowd .entry)) (now (rule .entry))) (size .rules) (now (dom .entry)) r ⌝ }
-{
-    let rules = size.rules;
-    for i in 0..rules {
-        let one = judge(crowd, rule[i], dom);
-        match one {
-            Tried::Found => {
-                continue;
-            }
-            Tried::Tired => {
-                return Tried::Tired;
-            }
-            Tried::Unsatisfiable => {
-                return Tried::Unsatisfiable;
-            }
-        }
-    }
-    Tried::Found
-}
+ghost use Rattle.eligible.specs.Classes.{OneLevel, ForJobs};
+ghost use Rattle.backtrack.specs.Trial.{MeetsAll, Alone, TakesFirst, Trial};
 
 // Gives each step the first of its domain, where that is one of the people.
 fn take_first(steps: usize, people: usize, dom: &Domains, plan: &mut Plan) -> bool
@@ -81,6 +39,29 @@ fn take_first(steps: usize, people: usize, dom: &Domains, plan: &mut Plan) -> bo
     true
 }
 
+// Whether a plan meets a rule: its count is compared.
+fn meets(crowd: &Crowds, r: u32, plan: &Plan) -> bool
+    requires { ⌜ OneLevel (now crowd) (levelIn r) × (scopeIn r < 4096) × (length (now plan) ≡ 12) ⌝ }
+    ensures { λ a. ⌜ ForJobs (now (crowd .entry)) r
+        (λ j. OfPeople j (planIn (now (plan .entry))) → Says a (Met j (unpacked r) (planIn (now (plan .entry))))) ⌝ }
+{
+    rule::can_be_met(r, plan_count(crowd, r, plan), 0)
+}
+
+// Whether a plan meets all rules.
+fn meets_all(size: Size, crowd: &Crowds, rule: &Rules, plan: &Plan) -> bool
+    requires { ⌜ Given size (now crowd) (now rule) × (length (now plan) ≡ 12) ⌝ }
+    ensures { λ a. ⌜ MeetsAll (jobIn size (now (crowd .entry)) (now (rule .entry))) (size .rules) (planIn (now (plan .entry))) a ⌝ }
+{
+    let rules = size.rules;
+    for i in 0..rules {
+        if !meets(crowd, rule[i], plan) {
+            return false;
+        }
+    }
+    true
+}
+
 // The plan of the domains, which have one person for each step.
 pub fn finish(size: Size, crowd: &Crowds, rule: &Rules, dom: &Domains, plan: &mut Plan) -> Tried
     requires { ⌜ Given size (now crowd) (now rule) × (length (now dom) ≡ 12) × (length (now plan) ≡ 12) × Alone (size .steps) 0 (now dom) ⌝ }
@@ -90,5 +71,8 @@ pub fn finish(size: Size, crowd: &Crowds, rule: &Rules, dom: &Domains, plan: &mu
     if !take_first(size.steps, size.people, dom, plan) {
         return Tried::Tired;
     }
-    judge_all(size, crowd, rule, dom)
+    if !meets_all(size, crowd, rule, plan) {
+        return Tried::Unsatisfiable;
+    }
+    Tried::Found
 }

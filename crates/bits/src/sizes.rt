@@ -29,7 +29,7 @@ pub type CardList = [u8; MOST_CHAIN];
 // A word for each person, as the shop or the bench.
 pub type PersonWords = [u16; MOST_PEOPLE];
 
-// A byte for each rule, as the kind or the limit.
+// A byte for each rule, as the kind, the limit or the count.
 pub type RuleBytes = [u8; MOST_RULES];
 
 // The slots that words fall into by their remainders.

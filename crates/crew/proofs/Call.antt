@@ -17,8 +17,7 @@ use Rattle.sheet.specs.declared.Sheet.{Sheet}
 use Rattle.sheet.specs.declared.Reading.{Reading}
 use Rattle.sheet.specs.declared.Reading.the-variants.{Readable, Refused}
 use Rattle.answer.proofs.WasRead.{was-refused, was-readable}
-use Rattle.workflow.specs.First.{found, planOf, listOf, firstPlan}
-use Rattle.workflow.proofs.First.{firstPlan-found}
+use Rattle.workflow.specs.First.{found, listOf, firstPlan}
 use Rattle.workflow.proofs.Lists.{planOf-listOf}
 use Rattle.pattern.specs.Tables.{planIn}
 use Rattle.first.specs.Settle.{foundAs}
@@ -26,6 +25,7 @@ use Rattle.instance.specs.Instance.{instanceOf, mayOf, crewTags}
 use Rattle.answer.specs.Bytes.{Outcome, written}
 use Rattle.crew.specs.Crew.{crewAnswer, crewOf}
 use Rattle.answer.specs.Number.{refusalNumber}
+use Rattle.crew.proofs.Found.{found-within}
 use Rattle.crew.proofs.Read.{crew-read, crew-refused, crew-short, crew-none, crew-found, tags-cong}
 
 -- what a return has to show: the number, and every byte
@@ -72,11 +72,7 @@ module _ (s : List ℕ) (a : Sheet) (e : a ≡ sheetOf s) where
         is-found = is ∙ ap (λ (b : Bool). foundAs steps b plan) w
 
         pub plan-below : (t : ℕ) → t < steps → getD plan t 0 < 64
-        plan-below t l =
-            let v = firstPlan-found (instanceOf people steps rules (a .job)) (mayOf (a .job)) (listOf steps (planIn plan)) is-found .1 .valid .within t l in
-            let m = readable .people-most in
-            let q : planOf (listOf steps (planIn plan)) t ≡ getD plan t 0 = planOf-listOf steps (planIn plan) t l in
-            omega arith
+        plan-below t l = omega (arith, found-within (instanceOf people steps rules (a .job)) (mayOf (a .job)) won plan is w t l, readable .people-most)
 
         pub returns-found : (buffer out : List ℕ) → 8 * steps ≤ length buffer
             → out ≡ written (crewTags (a .job .«step_tag») (a .job .«person_tag») plan steps) ++ drop (8 * steps) buffer → Returns s buffer 0 out

@@ -1,3 +1,5 @@
 pub mod Put
 pub mod Read
+pub mod Found
 pub mod Call
+pub mod Counted

@@ -1,1 +1,2 @@
 pub mod Crew
+pub mod Counts

@@ -1,7 +1,5 @@
-// The crew call: a sheet and a buffer become a number and the first valid plan's bytes.
+// The crew call: a sheet and a buffer become a number and the first valid plan's bytes. And the count of each rule for a plan.
 ghost use mathlib.Core.Path.{_≡_};
-ghost use Prim.Native.Nat.{_≤_};
-ghost use lib.ListN.{length};
 ghost use Rattle.sheet.specs.Readable.{ReadableJob};
 ghost use Rattle.workflow.specs.First.{firstPlan};
 ghost use Rattle.instance.specs.Instance.{instanceOf, mayOf};
@@ -20,10 +18,11 @@ use tables::may_masks;
 use tables::pose;
 use write::write_crew;
 
+pub mod counts;
 mod write;
 
 // The first valid plan of a job.
-fn plan_job(job: SheetJob, people: usize, steps: usize, rules: usize) -> Planned
+pub fn plan_job(job: SheetJob, people: usize, steps: usize, rules: usize) -> Planned
     requires { ⌜ ReadableJob people steps rules job ⌝ }
     ensures { λ r. ⌜ firstPlan (instanceOf people steps rules job) (mayOf job) ≡ foundAs steps (r .found) (r .plan) ⌝ }
 {

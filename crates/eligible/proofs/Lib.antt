@@ -1,3 +1,5 @@
-pub mod Groups
+pub mod Labels
+pub mod Names
+pub mod Planned
 pub mod Open
 pub mod Tests

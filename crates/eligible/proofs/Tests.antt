@@ -1,52 +1,65 @@
--- What the tests on the counts of a rule say. Assumes nothing.
+-- The count of a rule for a pattern, and what the judgement by it says. Assumes nothing.
 use mathlib.Core.Bool.{Bool, true, false, not, _&&_}
 use mathlib.Core.List.{List}
 use mathlib.Core.Path.{_≡_, sym, subst, ap, _∙_}
-use Prim.Native.Nat.{ℕ, _+_, _^_, _≤_, _<_}
-use native.Mathlib.Omega.{arith}
-use lib.Dec.{eqb, leb}
+use Prim.Native.Nat.{ℕ, _^_, _<_}
+use lib.Bits.{bitAnd}
+use lib.Dec.{eqb}
 use lib.ListN.{getD}
-use borrow.Author.Tests.{eqb-true, eqb-false, leb-true, leb-false}
+use borrow.Author.Tests.{eqb-true, eqb-false}
 use Rattle.bits.specs.Below.{count}
 use Rattle.bits.specs.Says.{Says}
 use Rattle.bits.specs.Word.{hasBit}
 use Rattle.bits.specs.Set.{FirstAndRest}
 use Rattle.bits.proofs.Below.{by-cases, true-false}
-use Rattle.bits.proofs.Masks.{taken-was}
-use Rattle.bits.proofs.Says.{says-of, says-true, says-false}
-use Rattle.bits.proofs.SetLaws.{zero-empty, removed-other}
+use Rattle.bits.proofs.Masks.{taken-was, bits-below}
+use Rattle.bits.proofs.Says.{says-true, says-false}
+use Rattle.bits.proofs.SetLaws.{and-bit, and-bit-left, and-bit-right, has-below, zero-empty, removed-other}
 use Rattle.workflow.specs.Problem.{distinct}
-use Rattle.pattern.specs.Rule.{scopeIn, levelIn, leastIn, mostIn, unpacked}
+use Rattle.pattern.proofs.Same.{distinct-scope-cong}
+use Rattle.pattern.specs.Rule.{scopeIn, levelIn, unpacked}
 use Rattle.pattern.specs.Tables.{labelIn, ruleIn}
-use Rattle.pattern.specs.Eligible.{groupCount, openCount, Possible}
+use Rattle.pattern.specs.Eligible.{groupCount, openCount, CanBeMet, Possible}
+use Rattle.eligible.specs.Labels.{LabelsReady}
 use Rattle.eligible.specs.Rules.{ForSteps, Among}
 
+-- labels of placed steps are there for a part of them
+pub ready-part : (scope : ℕ) {placed level : ℕ} {label : List ℕ} → LabelsReady placed level label → LabelsReady (bitAnd scope placed) level label
+ready-part scope {placed} {level} {label} w =
+    record {
+      row = record {
+        sized = w .row .sized;
+        from = w .row .from;
+        to = w .row .to;
+        below = bits-below 12 (bitAnd scope placed) (λ s h. has-below 12 placed s (w .row .below) (and-bit-right scope placed s h));
+      };
+      labels = λ s h. w .labels s (and-bit-right scope placed s h);
+    }
+
 -- the counts of a rule that is a number, from what is read of it
-module _ (rule placed : ℕ) (label : List ℕ) (scope level groups : ℕ) (its-scope : scope ≡ scopeIn rule) (its-level : level ≡ levelIn rule)
-    (g : (steps : ℕ) → scope < 2 ^ steps → groups ≡ distinct steps (λ s. hasBit scope s && hasBit placed s) (labelIn label level))
-    (steps : ℕ) (within : scopeIn rule < 2 ^ steps) where
+module _ (rule placed : ℕ) {scope : ℕ} (its-scope : scope ≡ scopeIn rule) (steps : ℕ) (within : scopeIn rule < 2 ^ steps) where
   its-within : scope < 2 ^ steps
   its-within = subst (λ (m : ℕ). m < 2 ^ steps) (sym its-scope) within
 
-  possible-groups : groups ≡ groupCount steps (hasBit placed) (labelIn label) (unpacked rule)
-  possible-groups =
-      g steps its-within
+  pub groups-counted : (label : List ℕ) {level groups : ℕ} → level ≡ levelIn rule
+      → ((n : ℕ) → bitAnd scope placed < 2 ^ n → groups ≡ distinct n (hasBit (bitAnd scope placed)) (labelIn label level))
+      → groups ≡ groupCount steps (hasBit placed) (labelIn label) (unpacked rule)
+  groups-counted label {level} its-level g =
+      g steps (bits-below steps _ (λ s h. has-below steps scope s its-within (and-bit-left scope placed s h)))
+      ∙ distinct-scope-cong steps (hasBit (bitAnd scope placed)) (λ s. hasBit scope s && hasBit placed s) (labelIn label level)
+      (λ s l. and-bit scope placed s)
       ∙ ap (λ (q : ℕ). distinct steps (λ s. hasBit scope s && hasBit placed s) (labelIn label q)) its-level
       ∙ ap (λ (m : ℕ). distinct steps (λ s. hasBit m s && hasBit placed s) (labelIn label (levelIn rule))) its-scope
 
-  pub too-many : mostIn rule < groups → Possible steps (hasBit placed) (labelIn label) (unpacked rule) → ⊥
-  too-many l p = omega (arith, possible-groups, p .most)
-
-  module _ (left : ℕ) (o : (steps : ℕ) → scope < 2 ^ steps → left ≡ count steps (λ s. hasBit scope s && not (hasBit placed s))) where
-    possible-left : left ≡ openCount steps (hasBit placed) (unpacked rule)
-    possible-left = o steps its-within ∙ ap (λ (m : ℕ). count steps (λ s. hasBit m s && not (hasBit placed s))) its-scope
-
-    pub possible-says : (least : ℕ) → groups ≤ mostIn rule → least ≡ leastIn rule
-        → Says (leb least (groups + left)) (Possible steps (hasBit placed) (labelIn label) (unpacked rule))
-    possible-says least h l =
-        says-of (leb least (groups + left)) (Possible steps (hasBit placed) (labelIn label) (unpacked rule))
-        (λ t. record { most = omega (arith, possible-groups); least = omega (arith, possible-groups, possible-left, leb-true least (groups + left) t) })
-        (λ t p. omega (arith, possible-groups, possible-left, leb-false least (groups + left) t, p .least))
+  -- the judgement by them
+  pub possible-says : (label : List ℕ) {groups left : ℕ} → groups ≡ groupCount steps (hasBit placed) (labelIn label) (unpacked rule)
+      → ((n : ℕ) → scope < 2 ^ n → left ≡ count n (λ s. hasBit scope s && not (hasBit placed s)))
+      → (r : Bool) → Says r (CanBeMet (unpacked rule) groups left) → Says r (Possible steps (hasBit placed) (labelIn label) (unpacked rule))
+  possible-says label {groups} {left} g o r h =
+      let open-steps : left ≡ openCount steps (hasBit placed) (unpacked rule)
+      = o steps its-within ∙ ap (λ (m : ℕ). count steps (λ s. hasBit m s && not (hasBit placed s))) its-scope in
+      subst (λ (n : ℕ). Says r (CanBeMet (unpacked rule) (groupCount steps (hasBit placed) (labelIn label) (unpacked rule)) n)) open-steps
+      (subst (λ (n : ℕ). Says r (CanBeMet (unpacked rule) n left)) g h)
 
 -- ---- the rules of a mask
 

@@ -2,20 +2,13 @@
 use mathlib.Core.Bool.{true}
 use mathlib.Core.List.{List}
 use mathlib.Core.Path.{_≡_}
-use Prim.Native.Nat.{ℕ, _^_, _≤_, _<_}
+use Prim.Native.Nat.{ℕ, _^_, _<_}
 use lib.ListN.{length, getD}
 use Rattle.bits.specs.Word.{hasBit}
 use Rattle.pattern.specs.Rule.{levelIn, scopeIn}
 use Rattle.pattern.specs.Tables.{labelIn, ruleIn}
 use Rattle.pattern.specs.Eligible.{Possible}
-
--- the placed steps have labels at the level, and a short word holds the set of them
-pub record LabelsReady (placed level : ℕ) (label : List ℕ) : Type 0 where
-  pub sized : length label ≡ 36
-  pub from : 1 ≤ level
-  pub to : level ≤ 3
-  pub below : placed < 4096
-  pub labels : (s : ℕ) → hasBit placed s ≡ true → labelIn label level s < 16
+use Rattle.eligible.specs.Labels.{LabelsReady}
 
 -- the rules, and labels at the level of each rule of the mask
 pub record RulesReady (among : ℕ) (rule : List ℕ) (placed : ℕ) (label : List ℕ) : Type 0 where

@@ -1,10 +1,15 @@
-// Eligibility of a pattern: whether each rule can still be met, by the groups of the placed steps
-// and the steps left open.
+// The count of a rule, for a pattern and for a plan; and the eligibility of a pattern: whether each rule can
+// still be met, by its count over the placed steps and the steps left open.
+pub mod classes;
+pub mod count;
+pub mod groups;
+pub mod plan;
+
 use bits::set;
 use bits::sizes::Labels;
-use bits::sizes::MOST_STEPS;
 use bits::sizes::Rules;
 use bits::small;
+use groups::group_count;
 use pattern::rule;
 ghost use mathlib.Core.Path.{_≡_};
 ghost use mathlib.Core.Bool.{not, _&&_};
@@ -12,29 +17,11 @@ ghost use Prim.Native.Nat.{ℕ, _^_, _≤_, _<_};
 ghost use Rattle.bits.specs.Below.{count};
 ghost use Rattle.bits.specs.Says.{Says};
 ghost use Rattle.bits.specs.Word.{hasBit};
-ghost use Rattle.workflow.specs.Problem.{distinct};
 ghost use Rattle.pattern.specs.Eligible.{Possible};
 ghost use Rattle.pattern.specs.Rule.{unpacked, levelIn, scopeIn};
 ghost use Rattle.pattern.specs.Tables.{labelIn};
-ghost use Rattle.eligible.specs.Rules.{LabelsReady, RulesReady, ForSteps, Among};
-
-// The number of groups of a level over the placed steps of a scope.
-fn group_count(scope: u16, level: usize, placed: u16, label: &Labels) -> usize
-    requires { ⌜ LabelsReady placed level (now label) ⌝ }
-    ensures { λ r. ⌜ (r ≤ 16) × ((steps : ℕ) → scope < 2 ^ steps
-        → r ≡ distinct steps (λ s. hasBit scope s && hasBit placed s) (labelIn (now (label .entry)) level)) ⌝ }
-{
-    let top = (level - 1) * MOST_STEPS;
-    let mut left = scope & placed;
-    let mut groups: u16 = 0;
-    while left != 0 {
-        let next = small::take(left);
-        left = next.rest;
-        let s = next.first;
-        groups = small::with(groups, label[top + s] as usize);
-    }
-    small::size(groups)
-}
+ghost use Rattle.eligible.specs.Labels.{LabelsReady};
+ghost use Rattle.eligible.specs.Rules.{RulesReady, ForSteps, Among};
 
 // The number of steps of a scope that are not placed.
 pub fn open_count(scope: u16, placed: u16) -> usize
@@ -49,11 +36,8 @@ fn possible(rule: u32, placed: u16, label: &Labels) -> bool
     ensures { λ r. ⌜ ((steps : ℕ) → scopeIn rule < 2 ^ steps → Says r (Possible steps (hasBit placed) (labelIn (now (label .entry))) (unpacked rule))) ⌝ }
 {
     let scope = rule::scope(rule);
-    let groups = group_count(scope, rule::level(rule), placed, label);
-    if groups > rule::most(rule) {
-        return false;
-    }
-    rule::least(rule) <= groups + open_count(scope, placed)
+    let groups = group_count(rule, placed, label);
+    rule::can_be_met(rule, groups, open_count(scope, placed))
 }
 
 // Whether every rule of a mask can still be met.

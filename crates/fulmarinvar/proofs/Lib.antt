@@ -6,6 +6,7 @@ pub mod Ending
 pub mod CrewDemand
 pub mod SpareDemand
 pub mod SheetDemand
+pub mod RuleCounts
 pub mod OneReading
 pub mod Stands
 pub mod OpenDemand

@@ -15,27 +15,28 @@ use Rattle.resiliency.specs.Away.{breaking, increasing}
 use Rattle.resiliency.specs.Count.{spare, firstBreaking}
 use Rattle.resiliency.specs.Count as counts
 use Rattle.resiliency.specs.Spare.{awayTags, spareBytes, spareOf, spareRead, spareAnswer}
+use Rattle.fulmarinvar.specs.RuleCounts.{linesBelow, linesFound, linesRead}
 use Rattle.fulmarinvar.specs.Trials.{All, trials}
 
 pub trials-hold : All trials
 unfolding all any count first headerOk personOk stepOk ruleOk limitOk fieldsOk walk member firstFault readSheet readPeople peopleRead stepsRead checked firstClash firstLate
     firstLoose jobOf table opens distinct authorisedTest eligibleTest valid firstPlan firstOf tryAll crewTags written
-    planned crewOf crewRead breaking increasing spare firstBreaking counts.countFrom awayTags spareBytes spareOf spareRead spareAnswer
+    planned crewOf crewRead breaking increasing spare firstBreaking counts.countFrom awayTags spareBytes spareOf spareRead spareAnswer linesBelow linesFound linesRead
 trials-hold = (
-  (refl, (refl, (refl, tt))),
+  (refl, refl, (refl, (refl, tt))),
   (
-    (refl, (refl, tt)),
+    (refl, refl, (refl, tt)),
     (
-      (refl, (refl, tt)),
+      (refl, refl, (refl, tt)),
       (
-        (refl, (refl, tt)),
+        (refl, refl, (refl, tt)),
         (
-          (refl, (refl, tt)),
+          (refl, refl, (refl, tt)),
           (
-            (refl, (refl, tt)),
+            (refl, refl, (refl, tt)),
             (
-              (refl, (refl, tt)),
-              ((refl, (refl, tt)), tt),
+              (refl, refl, (refl, tt)),
+              ((refl, refl, (refl, tt)), tt),
             ),
           ),
         ),

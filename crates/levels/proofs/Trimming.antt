@@ -14,7 +14,7 @@ use Rattle.workflow.proofs.Same.{renamed-same, same-trans}
 use Rattle.pattern.specs.declared.Size.{Size}
 use Rattle.pattern.specs.Given.{Ruled, Given, Leaders, Classed}
 use Rattle.pattern.specs.Pattern.{Refining}
-use Rattle.pattern.specs.Realize.{leader}
+use Rattle.pattern.specs.Realize.{nameOf, leader}
 use Rattle.pattern.specs.Rule.{levelIn, leastIn, mostIn, scopeIn}
 use Rattle.pattern.specs.Tables.{classIn, ruleIn, jobIn}
 use Rattle.pattern.proofs.Levels.{refining-up}
@@ -86,7 +86,7 @@ module _ (size : Size) (n marks : ℕ) (class rule class′ rule′ old new : Li
       }
 
   leaders : (q p : ℕ) → 1 ≤ q → q ≤ n → p < size .people → classIn class′ q p ≡ leader is q p
-  unfolding leader
+  unfolding nameOf
   leaders q p a b l =
       row q p a b l
       ∙ given .leaders (getD old q 0) p (numbered .keeps .from q a b) (numbered .keeps .to q a b) l

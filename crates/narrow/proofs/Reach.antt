@@ -13,7 +13,7 @@ use Rattle.bits.specs.Set.{FirstAndRest}
 use Rattle.bits.proofs.Below.{by-cases, true-false}
 use Rattle.bits.proofs.Counting.{and-of, is-false}
 use Rattle.bits.proofs.SetLaws.{and-bit, or-bit, empty-lacks, removed-lacks, removed-other}
-use Rattle.narrow.specs.Domains.{Grouped}
+use Rattle.eligible.specs.Classes.{Grouped}
 use Rattle.narrow.specs.Fixing.{Reaching}
 use Rattle.narrow.specs.Narrowing.{Common}
 use Rattle.bits.proofs.Masks.{taken-was, xor-all, all-has, or-left, or-right}

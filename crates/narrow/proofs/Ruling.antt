@@ -21,7 +21,8 @@ use Rattle.workflow.proofs.Occurs.{distinct-scope-mono, distinct-scope-split}
 use Rattle.workflow.proofs.Rules.{distinct-of-pair}
 use Rattle.pattern.specs.Rule.{levelIn, leastIn, mostIn, scopeIn, unpacked}
 use Rattle.pattern.proofs.Counted.{Adds, distinct-joins, distinct-new}
-use Rattle.narrow.specs.Domains.{Takes, ForClasses, ForJobs, Revised}
+use Rattle.eligible.specs.Classes.{ForClasses, ForJobs}
+use Rattle.narrow.specs.Domains.{Takes, Revised}
 use Rattle.narrow.specs.Fixing.{settled, Fixing}
 use Rattle.narrow.specs.Narrowing.{SharesWith, Restricted, Hopeless, Allowed}
 use Rattle.narrow.specs.Parting.{Apart}
@@ -60,19 +61,19 @@ one-class n scope c s t l m h k few =
           only = λ u b x y. ap (λ (z : Bool). z || eqb u t) (ne-eqb u s x) ∙ ne-eqb u t y;
         }
 
-module _ {steps people : ℕ} {c : ℕ → ℕ} {scope : ℕ} {dom : List ℕ} {used heads wide : ℕ} (f : Fixing steps people c scope dom 0 used heads wide)
+module _ {steps people : ℕ} {c : ℕ → ℕ} {scope : ℕ} {dom : List ℕ} {used groups wide : ℕ} (f : Fixing steps people c scope dom used groups wide)
     (π : Plan) (takes : Takes steps people dom π) where
   -- between the classes that are had, and one more for each open step
-  pub count-from : count steps (hasBit heads) ≤ distinct steps (hasBit scope) (λ u. c (π u))
+  pub count-from : groups ≤ distinct steps (hasBit scope) (λ u. c (π u))
   count-from =
-      let a : count steps (hasBit heads) ≡ distinct steps (settled scope wide 0) (λ u. c (π u)) = f .number π takes in
+      let a : groups ≡ distinct steps (settled scope wide 0) (λ u. c (π u)) = f .number π takes in
       let b : distinct steps (settled scope wide 0) (λ u. c (π u)) ≤ distinct steps (hasBit scope) (λ u. c (π u))
       = distinct-scope-mono steps (λ u. c (π u)) (settled scope wide 0) (hasBit scope) (λ u l h. settled-scope scope wide 0 u h) in
       omega arith
 
-  pub count-to : distinct steps (hasBit scope) (λ u. c (π u)) ≤ count steps (hasBit heads) + count steps (hasBit wide)
+  pub count-to : distinct steps (hasBit scope) (λ u. c (π u)) ≤ groups + count steps (hasBit wide)
   count-to =
-      let a : count steps (hasBit heads) ≡ distinct steps (settled scope wide 0) (λ u. c (π u)) = f .number π takes in
+      let a : groups ≡ distinct steps (settled scope wide 0) (λ u. c (π u)) = f .number π takes in
       let b : distinct steps (hasBit scope) (λ u. c (π u)) ≤ distinct steps (settled scope wide 0) (λ u. c (π u)) + count steps (hasBit wide)
       = distinct-scope-split steps (λ u. c (π u)) (hasBit scope) (settled scope wide 0) (hasBit wide)
       (λ u l h d. by-cases (hasBit wide u) (λ t. t) (λ t. true-false (settled-of scope wide 0 u h t (empty-lacks u)) d)) in
@@ -98,15 +99,15 @@ module _ {steps people : ℕ} {c : ℕ → ℕ} {scope : ℕ} {dom : List ℕ} {
         (λ x. subst (λ (z : ℕ). hasBit scope z ≡ true) (sym (eqb-true u t x)) (f .part t is-open .1))
 
     -- with somebody of no class that is had, t brings one more
-    brings : hasBit used (π t) ≡ false → distinct steps (λ u. settled scope wide 0 u || eqb u t) (λ u. c (π u)) ≡ suc (count steps (hasBit heads))
+    brings : hasBit used (π t) ≡ false → distinct steps (λ u. settled scope wide 0 u || eqb u t) (λ u. c (π u)) ≡ suc groups
     brings h =
         let b = bound-of steps (λ u. c (π u)) in
         distinct-new steps (b .0) (settled scope wide 0) (λ u. settled scope wide 0 u || eqb u t) (λ u. c (π u)) t adds (λ u l i. b .1 u l)
-        (λ u l i e. true-false (f .classes-of π takes (π t) u (takes .within t below) l i (sym e)) h)
+        (λ u l i e. true-false (f .used-by π takes .classes-of (π t) u (takes .within t below) l i (sym e)) h)
         ∙ ap suc (sym (f .number π takes))
 
     -- at the upper end, t joins a class that is had
-    pub joins-used : distinct steps (hasBit scope) (λ u. c (π u)) ≤ count steps (hasBit heads) → hasBit used (π t) ≡ true
+    pub joins-used : distinct steps (hasBit scope) (λ u. c (π u)) ≤ groups → hasBit used (π t) ≡ true
     joins-used most =
         by-cases (hasBit used (π t)) (λ h. h)
         (λ h.
@@ -115,13 +116,13 @@ module _ {steps people : ℕ} {c : ℕ → ℕ} {scope : ℕ} {dom : List ℕ} {
         absurd (omega (arith, brings h)))
 
     -- at the lower end, it joins none
-    pub avoids-used : count steps (hasBit heads) + count steps (hasBit wide) ≤ distinct steps (hasBit scope) (λ u. c (π u)) → hasBit used (π t) ≡ false
+    pub avoids-used : groups + count steps (hasBit wide) ≤ distinct steps (hasBit scope) (λ u. c (π u)) → hasBit used (π t) ≡ false
     avoids-used least =
         is-false _
         (λ h.
         let b = bound-of steps (λ u. c (π u)) in
-        let o = f .people-of π takes (π t) (takes .within t below) h in
-        let g : count steps (hasBit heads) ≡ distinct steps (settled scope wide 0) (λ u. c (π u)) = f .number π takes in
+        let o = f .used-by π takes .people-of (π t) (takes .within t below) h in
+        let g : groups ≡ distinct steps (settled scope wide 0) (λ u. c (π u)) = f .number π takes in
         let same : distinct steps (λ u. settled scope wide 0 u || eqb u t) (λ u. c (π u)) ≡ distinct steps (settled scope wide 0) (λ u. c (π u))
         = distinct-joins steps (b .0) (settled scope wide 0) (λ u. settled scope wide 0 u || eqb u t) (λ u. c (π u)) t adds (λ u l i. b .1 u l)
         (o .0) (o .1) (o .2) (sym (o .3)) in
@@ -147,22 +148,22 @@ module _ {steps people : ℕ} {c : ℕ → ℕ} {scope : ℕ} {dom : List ℕ} {
     -- no settled step has the class of one of them
     unlike-settled : (s u : ℕ) → s < steps → u < steps → hasBit parts s ≡ true → settled scope wide 0 u ≡ true → c (π u) ≡ c (π s) → ⊥
     unlike-settled s u l m h i e =
-        true-false (f .classes-of π takes (π s) u (takes .within s l) m i (sym e)) (w .new s (π s) h (takes .within s l) (takes .among s l))
+        true-false (f .used-by π takes .classes-of (π s) u (takes .within s l) m i (sym e)) (w .new s (π s) h (takes .within s l) (takes .among s l))
 
     unlike-each : (s t : ℕ) → s < steps → t < steps → hasBit parts s ≡ true → hasBit parts t ≡ true → (s ≡ t → ⊥) → c (π s) ≡ c (π t) → ⊥
     unlike-each s t l m h k d e = w .differ s t (π s) (π t) h k d (takes .within s l) (takes .within t m) (takes .among s l) (takes .among t m) e
 
     -- they have a class each
-    pub count-apart : count steps (hasBit heads) + count steps (hasBit parts) ≤ distinct steps (hasBit scope) (λ u. c (π u))
+    pub count-apart : groups + count steps (hasBit parts) ≤ distinct steps (hasBit scope) (λ u. c (π u))
     count-apart =
-        let a : count steps (hasBit heads) ≡ distinct steps (settled scope wide 0) (λ u. c (π u)) = f .number π takes in
+        let a : groups ≡ distinct steps (settled scope wide 0) (λ u. c (π u)) = f .number π takes in
         let b : distinct steps (settled scope wide 0) (λ u. c (π u)) + count steps (hasBit parts) ≤ distinct steps (hasBit scope) (λ u. c (π u))
         = classes-from steps (hasBit scope) (settled scope wide 0) (hasBit parts) (λ u. c (π u)) (λ u l i. settled-scope scope wide 0 u i)
         (λ s l h. part-of s h .1) unlike-settled unlike-each in
         omega arith
 
     -- where these are all that there may be, an open step joins one of them or a class that is had
-    pub joins-all : (t : ℕ) → hasBit wide t ≡ true → distinct steps (hasBit scope) (λ u. c (π u)) ≤ count steps (hasBit heads) + count steps (hasBit parts)
+    pub joins-all : (t : ℕ) → hasBit wide t ≡ true → distinct steps (hasBit scope) (λ u. c (π u)) ≤ groups + count steps (hasBit parts)
         → hasBit all (π t) ≡ true
     joins-all t is-open most =
         by-cases (hasBit all (π t)) (λ h. h)
@@ -179,22 +180,22 @@ module _ {steps people : ℕ} {c : ℕ → ℕ} {scope : ℕ} {dom : List ℕ} {
         absurd (omega (arith, brings t is-open (is-false _ (λ k. true-false (w .keeps (π t) k) h)))))
 
 -- the rule r in a job, and what the domains settle of its count
-pub record SettledRule (j : Job) (r : ℕ) (dom : List ℕ) (used heads wide : ℕ) : Type 0 where
+pub record SettledRule (j : Job) (r : ℕ) (dom : List ℕ) (used groups wide : ℕ) : Type 0 where
   pub few-steps : j .steps ≤ 12
   pub few-people : j .people ≤ 64
   pub sized : length dom ≡ 12
-  pub fixing : Fixing (j .steps) (j .people) (j .class (levelIn r)) (scopeIn r) dom 0 used heads wide
+  pub fixing : Fixing (j .steps) (j .people) (j .class (levelIn r)) (scopeIn r) dom used groups wide
 
 -- what is settled of a scope at a level is settled of the rule in every job that can have it
-pub settled-rule : {crowd : List ℕ} {r level scope : ℕ} {dom : List ℕ} {used heads wide : ℕ} → level ≡ levelIn r → scope ≡ scopeIn r → length dom ≡ 12
-    → ((steps : ℕ) → scope < 2 ^ steps → ForClasses crowd level (λ people c. Fixing steps people c scope dom 0 used heads wide))
-    → ForJobs crowd r (λ j. SettledRule j r dom used heads wide)
+pub settled-rule : {crowd : List ℕ} {r level scope : ℕ} {dom : List ℕ} {used groups wide : ℕ} → level ≡ levelIn r → scope ≡ scopeIn r → length dom ≡ 12
+    → ((steps : ℕ) → scope < 2 ^ steps → ForClasses crowd level (λ people c. Fixing steps people c scope dom used groups wide))
+    → ForJobs crowd r (λ j. SettledRule j r dom used groups wide)
 settled-rule e d sized fixing size rule at =
     let f = rw (e, d) at fixing in
     record { few-steps = at .few-steps; few-people = at .grouped .few; sized = sized; fixing = f (size .steps) (at .scoped) (size .people) (at .grouped) }
 
-module _ {j : Job} {r : ℕ} {dom : List ℕ} {used heads wide : ℕ} (w : SettledRule j r dom used heads wide) where
-  f : Fixing (j .steps) (j .people) (j .class (levelIn r)) (scopeIn r) dom 0 used heads wide
+module _ {j : Job} {r : ℕ} {dom : List ℕ} {used groups wide : ℕ} (w : SettledRule j r dom used groups wide) where
+  f : Fixing (j .steps) (j .people) (j .class (levelIn r)) (scopeIn r) dom used groups wide
   f = w .fixing
 
   -- the machine's count of some of the steps
@@ -202,9 +203,6 @@ module _ {j : Job} {r : ℕ} {dom : List ℕ} {used heads wide : ℕ} (w : Settl
   counts m below =
       let z : m < 2 ^ 12 = bits-below 12 m (λ s h. omega (arith, w .few-steps, below s h)) in
       ones-count (j .steps) m (omega (arith, w .few-steps)) (omega arith) below
-
-  pub heads-count : ones heads ≡ count (j .steps) (hasBit heads)
-  heads-count = counts heads (f .few)
 
   wide-in : (s : ℕ) → hasBit wide s ≡ true → s < j .steps
   wide-in s h = f .part s h .0
@@ -216,18 +214,18 @@ module _ {j : Job} {r : ℕ} {dom : List ℕ} {used heads wide : ℕ} (w : Settl
   parts-count {parts = parts} a = counts parts (λ s h. wide-in s (a .among s h))
 
   module _ (π : Plan) (met : Met j (unpacked r) π) (takes : Takes (j .steps) (j .people) dom π) where
-    at-most : (t : ℕ) → hasBit wide t ≡ true → ones heads ≡ mostIn r → hasBit used (π t) ≡ true
-    at-most t h e = joins-used f π takes t h (omega (arith, heads-count, met .most))
+    at-most : (t : ℕ) → hasBit wide t ≡ true → groups ≡ mostIn r → hasBit used (π t) ≡ true
+    at-most t h e = joins-used f π takes t h (omega (arith, met .most))
 
-    at-least : (t : ℕ) → hasBit wide t ≡ true → ones heads + ones wide ≡ leastIn r → hasBit used (π t) ≡ false
-    at-least t h e = avoids-used f π takes t h (omega (arith, heads-count, wide-count, met .least))
+    at-least : (t : ℕ) → hasBit wide t ≡ true → groups + ones wide ≡ leastIn r → hasBit used (π t) ≡ false
+    at-least t h e = avoids-used f π takes t h (omega (arith, wide-count, met .least))
 
     module _ {all parts : ℕ} (a : Apart (j .people) (j .class (levelIn r)) wide used dom all parts) where
-      from-apart : ones heads + ones parts ≤ classCount j (unpacked r) π
-      from-apart = omega (arith, heads-count, parts-count a, count-apart f π takes a)
+      from-apart : groups + ones parts ≤ classCount j (unpacked r) π
+      from-apart = omega (arith, parts-count a, count-apart f π takes a)
 
-      at-limit : (t : ℕ) → hasBit wide t ≡ true → ones heads + ones parts ≡ mostIn r → hasBit all (π t) ≡ true
-      at-limit t h e = joins-all f π takes a t h (omega (arith, heads-count, parts-count a, met .most))
+      at-limit : (t : ℕ) → hasBit wide t ≡ true → groups + ones parts ≡ mostIn r → hasBit all (π t) ≡ true
+      at-limit t h e = joins-all f π takes a t h (omega (arith, parts-count a, met .most))
 
     -- with one class, somebody of each open step is of the class of t
     at-one : (t : ℕ) → hasBit wide t ≡ true → mostIn r ≡ 1 → (s : ℕ) → hasBit wide s ≡ true → SharesWith (j .people) (j .class (levelIn r)) dom s (π t)
@@ -241,13 +239,20 @@ module _ {j : Job} {r : ℕ} {dom : List ℕ} {used heads wide : ℕ} (w : Settl
         )
 
     -- too many classes are had, or too few can be
-    unmet : Hopeless (j .people) (j .class (levelIn r)) r wide used dom (ones heads) (ones wide) → ⊥
-    unmet (inl many) = omega (arith, heads-count, count-from f π takes, met .most)
-    unmet (inr (inl few)) = omega (arith, heads-count, wide-count, count-to f π takes, met .least)
-    unmet (inr (inr short)) = omega (arith, heads-count, short .less, count-spread f (short .spread) π takes, met .least)
+    unmet : Hopeless (j .people) (j .class (levelIn r)) r wide used dom groups (ones wide) → ⊥
+    unmet (inl not-now) =
+        not-now (record {
+          most = omega (arith, count-from f π takes, met .most);
+          least = omega (arith, wide-count, count-to f π takes, met .least);
+        })
+    unmet (inr short) =
+        short .unmet (record {
+          most = omega (arith, count-from f π takes, met .most);
+          least = omega (arith, count-spread f (short .spread) π takes, met .least);
+        })
 
     -- the open steps have only such people
-    such : {crew : ℕ} → Allowed (j .people) (j .class (levelIn r)) r wide used dom (ones heads) (ones wide) crew → (t : ℕ) → hasBit wide t ≡ true → hasBit crew (π t) ≡ true
+    such : {crew : ℕ} → Allowed (j .people) (j .class (levelIn r)) r wide used dom groups (ones wide) crew → (t : ℕ) → hasBit wide t ≡ true → hasBit crew (π t) ≡ true
     such (inl one) t h = one .1 (π t) (takes .within t (wide-in t h)) (λ s k _. at-one t h (one .0) s k)
     such (inr (inl l)) t h =
         l .has (π t) (omega (arith, w .few-people, takes .within t (wide-in t h))) (omega (arith, from-apart (l .apart), met .most))
@@ -255,12 +260,12 @@ module _ {j : Job} {r : ℕ} {dom : List ℕ} {used heads wide : ℕ} (w : Settl
     such (inr (inr only)) t h = only (π t) (omega (arith, w .few-people, takes .within t (wide-in t h))) (at-most t h) (at-least t h)
 
   -- no plan of the domains meets the rule
-  pub revised-lost : Hopeless (j .people) (j .class (levelIn r)) r wide used dom (ones heads) (ones wide) → Revised j (unpacked r) dom dom true
+  pub revised-lost : Hopeless (j .people) (j .class (levelIn r)) r wide used dom groups (ones wide) → Revised j (unpacked r) dom dom true
   revised-lost h = record { fewer = fewer-same dom (w .sized); kept = λ t. true-false refl t; lost = λ t π met takes. unmet π met takes h }
 
   -- the open steps are left only such people
   pub revised : {crew : ℕ} {dom′ : List ℕ} {failed : Bool} {changed : ℕ} → Restricted wide crew dom dom′ failed changed
-      → Allowed (j .people) (j .class (levelIn r)) r wide used dom (ones heads) (ones wide) crew → Revised j (unpacked r) dom dom′ failed
+      → Allowed (j .people) (j .class (levelIn r)) r wide used dom groups (ones wide) crew → Revised j (unpacked r) dom dom′ failed
   revised cut ok =
       record {
         fewer = cut .done .fewer;

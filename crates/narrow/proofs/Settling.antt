@@ -1,8 +1,7 @@
--- Settling the steps of a scope one by one: a step whose people share a class joins a class that is had or brings a new one. Assumes
--- nothing.
+-- Settling the steps of a scope one by one: a step whose people share a class brings its label. Assumes nothing.
 use mathlib.Core.Bool.{Bool, true, false, not, _&&_}
 use mathlib.Core.List.{List}
-use mathlib.Core.Path.{_≡_, refl, sym, subst, ap, _∙_}
+use mathlib.Core.Path.{_≡_, sym, subst, ap, _∙_}
 use Prim.Native.Nat.{ℕ, zero, suc, _+_, _^_, _≤_, _<_}
 use native.Mathlib.Omega.{arith}
 use native.Mathlib.Nat.{not-suc-le-zero}
@@ -10,21 +9,21 @@ use lib.Bits.{bitAnd, bitOr}
 use lib.Dec.{eqb, ltb}
 use lib.ListN.{getD}
 use borrow.Author.Tests.{eqb-true, eqb-false, ltb-true, ltb-false, not-true}
-use Rattle.bits.specs.Below.{count}
 use Rattle.bits.specs.Word.{hasBit}
 use Rattle.bits.specs.Set.{Added, Removed, Lowest, FirstAndRest}
 use Rattle.bits.proofs.Below.{by-cases, true-false, below-suc, and-left, and-right}
-use Rattle.bits.proofs.Counting.{and-of, is-false, bool-ext, count-none, count-insert}
-use Rattle.bits.proofs.SetLaws.{and-bit-left, and-bit-right, or-bit, empty-lacks, has-below, and-apart, added-has, added-other, removed-lacks, removed-other, removed-was, removed-differs}
+use Rattle.bits.proofs.Counting.{and-of, is-false, bool-ext}
+use Rattle.bits.proofs.SetLaws.{and-bit-left, and-bit-right, or-bit, empty-lacks, has-below, added-has, added-other, removed-lacks, removed-other, removed-was}
 use Rattle.workflow.specs.Problem.{Plan, distinct}
-use Rattle.workflow.proofs.Counts.{distinct-le-scope}
-use Rattle.pattern.proofs.Counted.{Adds, distinct-joins, distinct-new}
-use Rattle.pattern.proofs.Same.{distinct-scope-cong}
-use Rattle.pattern.specs.Rule.{levelIn}
-use Rattle.pattern.specs.declared.Size.{Size}
-use Rattle.pattern.specs.Given.{Given}
-use Rattle.narrow.specs.Domains.{Takes, Crowd, OneLevel, Grouped, ForClasses, RuleAt}
-use Rattle.narrow.specs.Fixing.{Shared, settled, Fixing}
+use Rattle.pattern.proofs.Counted.{Adds}
+use Rattle.pattern.proofs.Leader.{name-same, names-distinct}
+use Rattle.pattern.specs.Realize.{nameOf}
+use Rattle.eligible.specs.Labels.{LabelsOf}
+use Rattle.eligible.proofs.Labels.{labels-none, labels-cong, added-had, labels-more}
+use Rattle.eligible.proofs.Names.{lowest-name}
+use Rattle.eligible.specs.Classes.{Crowd, Grouped, ForClasses}
+use Rattle.narrow.specs.Domains.{Takes}
+use Rattle.narrow.specs.Fixing.{Shared, settled, UsedBy, Fixing}
 use Rattle.bits.proofs.Masks.{or-cases, or-left, or-right, bits-below, some-bit}
 
 -- ---- the class that a domain shares
@@ -36,30 +35,6 @@ nobody c = record { few = omega arith; each = λ p l. absurd (not-suc-le-zero l)
 -- the same level by another name
 pub at-level : (crowd : List ℕ) (P : ℕ → (ℕ → ℕ) → Type 0) {q level : ℕ} → q ≡ level → ForClasses crowd q P → ForClasses crowd level P
 at-level crowd P e w = subst (λ (x : ℕ). ForClasses crowd x P) e w
-
-module _ {size : Size} {crowd rule : List ℕ} (given : Given size crowd rule) (i : ℕ) (l : i < size .rules) where
-  -- the level of a rule
-  pub level-of : OneLevel crowd (levelIn (getD rule i 0))
-  level-of =
-      let ok = given .ruled .rule-ok i l in
-      record { sized = given .crowds .sized; from = ok .from; to = omega (arith, given .ruled .few-levels, ok .to) }
-
-  -- the table has the classes of that level
-  pub rule-at : RuleAt size crowd (getD rule i 0)
-  rule-at =
-      let ok = given .ruled .rule-ok i l in
-      record {
-        few-steps = given .ruled .few-steps;
-        scoped = given .ruled .scopes i l;
-        grouped = record {
-          few = given .few-people;
-          each = λ p m.
-              record {
-                has = λ p′ k e. given .crowds .has _ p p′ (ok .from) (ok .to) m k e;
-                only = λ p′ h. given .crowds .only _ p p′ (ok .from) (ok .to) m h;
-              };
-        };
-      }
 
 crowd-cong : {people : ℕ} {c : ℕ → ℕ} {p q r : ℕ} → c p ≡ c q → Crowd people c p r → Crowd people c q r
 crowd-cong e w =
@@ -103,40 +78,29 @@ bound-of (suc n) c =
       λ s l. below-suc n s l (λ m. omega (arith, w .1 s m)) (λ e. rw e (omega arith)),
     )
 
--- where the loop stands: the steps left are of the scope, and no head yet
-pub record Settling (steps people : ℕ) (c : ℕ → ℕ) (scope : ℕ) (dom : List ℕ) (left used heads wide : ℕ) : Type 0 where
-  pub fixing : Fixing steps people c scope dom left used heads wide
+-- where the loop stands: in every plan of the domains, the labels are the names of the classes of the settled steps, and the people of
+-- `used` are theirs
+pub record Settling (steps people : ℕ) (c : ℕ → ℕ) (scope : ℕ) (dom : List ℕ) (left used labels wide : ℕ) : Type 0 where
+  pub part : (s : ℕ) → hasBit wide s ≡ true → (s < steps) × (hasBit scope s ≡ true) × (hasBit left s ≡ false)
   pub rest : (s : ℕ) → hasBit left s ≡ true → (s < steps) × (hasBit scope s ≡ true)
-  pub fresh : (s : ℕ) → hasBit left s ≡ true → hasBit heads s ≡ false
+  pub names : (π : Plan) → Takes steps people dom π → LabelsOf steps (settled scope wide left) (λ s. nameOf people c (π s)) labels
+  pub used-by : (π : Plan) → Takes steps people dom π → UsedBy steps people c (settled scope wide left) π used
 
 module _ {steps people : ℕ} {c : ℕ → ℕ} {scope : ℕ} {dom : List ℕ} where
   pub settling-none : scope < 2 ^ steps → Settling steps people c scope dom scope 0 0 0
-  settling-none small = start
+  settling-none small =
+      record {
+        part = λ s h. true-false h (empty-lacks s);
+        rest = λ s h. (has-below steps scope s small h, h);
+        names = λ π t. labels-none unsettled;
+        used-by = λ π t.
+            record { people-of = λ p l h. true-false h (empty-lacks p); classes-of = λ p s l m h e. absurd (unsettled s m h) };
+      }
     where
       unsettled : (s : ℕ) → s < steps → settled scope 0 scope s ≡ true → ⊥
       unsettled s l h = true-false (settled-scope scope 0 scope s h) (settled-passed scope 0 scope s h)
 
-      start : Settling steps people c scope dom scope 0 0 0
-      start =
-          record {
-            fixing = record {
-              few = λ s h. true-false h (empty-lacks s);
-              part = λ s h. true-false h (empty-lacks s);
-              number = λ π t.
-                  count-none steps (hasBit 0) (λ s l. empty-lacks s)
-                  ∙ (let a : distinct steps (settled scope 0 scope) (λ s. c (π s)) ≤ count steps (settled scope 0 scope)
-                  = distinct-le-scope steps (settled scope 0 scope) (λ s. c (π s)) in
-                  let b : count steps (settled scope 0 scope) ≡ 0
-                  = count-none steps (settled scope 0 scope) (λ s l. is-false _ (unsettled s l)) in
-                  omega arith);
-              people-of = λ π t p l h. true-false h (empty-lacks p);
-              classes-of = λ π t p s l m h e. absurd (unsettled s m h);
-            };
-            rest = λ s h. (has-below steps scope s small h, h);
-            fresh = λ s h. empty-lacks s;
-          }
-
-  module _ {left used heads wide s left′ : ℕ} (w : Settling steps people c scope dom left used heads wide) (taken : FirstAndRest left s left′) where
+  module _ {left used labels wide s left′ : ℕ} (w : Settling steps people c scope dom left used labels wide) (taken : FirstAndRest left s left′) where
     low : Lowest left s
     low = taken .lowest
 
@@ -167,133 +131,113 @@ module _ {steps people : ℕ} {c : ℕ → ℕ} {scope : ℕ} {dom : List ℕ} w
           settled-of scope wide left u (settled-scope scope wide′ left′ u h) (sym (added-other more u d) ∙ n)
           (sym (removed-other gone u d) ∙ settled-passed scope wide′ left′ u h))
 
-      pub settling-wide : Settling steps people c scope dom left′ used heads wide′
+      pub settling-wide : Settling steps people c scope dom left′ used labels wide′
       settling-wide =
           record {
-            fixing = record {
-              few = w .fixing .few;
-              part = λ u h.
-                  by-cases (eqb u s)
-                  (λ t. let e : u ≡ s = eqb-true u s t in
-                  let r = w .rest u (subst (λ (x : ℕ). hasBit left x ≡ true) (sym e) (low .has)) in
-                  (r .0, r .1, subst (λ (x : ℕ). hasBit left′ x ≡ false) (sym e) (removed-lacks gone)))
-                  (λ t. let r = w .fixing .part u (sym (added-other more u (eqb-false u s t)) ∙ h) in
-                  (r .0, r .1, still u (r .2)));
-              number = λ π t.
-                  w .fixing .number π t
-                  ∙ distinct-scope-cong steps (settled scope wide left) (settled scope wide′ left′) (λ s. c (π s)) (λ u l. same u);
-              people-of = λ π t p l h. let o = w .fixing .people-of π t p l h in (o .0, o .1, sym (same (o .0)) ∙ o .2, o .3);
-              classes-of = λ π t p u l m h e. w .fixing .classes-of π t p u l m (same u ∙ h) e;
-            };
+            part = λ u h.
+                by-cases (eqb u s)
+                (λ t. let e : u ≡ s = eqb-true u s t in
+                let r = w .rest u (subst (λ (x : ℕ). hasBit left x ≡ true) (sym e) (low .has)) in
+                (r .0, r .1, subst (λ (x : ℕ). hasBit left′ x ≡ false) (sym e) (removed-lacks gone)))
+                (λ t. let r = w .part u (sym (added-other more u (eqb-false u s t)) ∙ h) in
+                (r .0, r .1, still u (r .2)));
             rest = rest′;
-            fresh = λ u h. w .fresh u (removed-was gone u h);
+            names = λ π t. labels-cong (λ u l. same u) (w .names π t);
+            used-by = λ π t.
+                let v = w .used-by π t in
+                record {
+                  people-of = λ p l h. let o = v .people-of p l h in (o .0, o .1, sym (same (o .0)) ∙ o .2, o .3);
+                  classes-of = λ p u l m h e. v .classes-of p u l m (same u ∙ h) e;
+                };
           }
-
-    not-wide : hasBit wide s ≡ false
-    not-wide = is-false _ (λ h. true-false (low .has) (w .fixing .part s h .2))
 
     adds : Adds steps (settled scope wide left) (settled scope wide left′) s
     adds =
         record {
           below = w .rest s (low .has) .0;
           lacks = is-false _ (λ h. true-false (low .has) (settled-passed scope wide left s h));
-          has = settled-of scope wide left′ s (w .rest s (low .has) .1) not-wide (removed-lacks gone);
+          has = settled-of scope wide left′ s (w .rest s (low .has) .1) (is-false _ (λ h. true-false (low .has) (w .part s h .2))) (removed-lacks gone);
           others = λ u d. ap (λ (b : Bool). hasBit scope u && (not (hasBit wide u) && not b)) (sym (removed-other gone u d));
         }
 
     grows : (u : ℕ) → settled scope wide left u ≡ true → settled scope wide left′ u ≡ true
     grows u h = sym (adds .others u (apart u (settled-passed scope wide left u h))) ∙ h
 
-    shrinks : (u : ℕ) → (u ≡ s → ⊥) → settled scope wide left′ u ≡ true → settled scope wide left u ≡ true
-    shrinks u d h = adds .others u d ∙ h
+    part′ : (u : ℕ) → hasBit wide u ≡ true → (u < steps) × (hasBit scope u ≡ true) × (hasBit left′ u ≡ false)
+    part′ u h = let r = w .part u h in (r .0, r .1, still u (r .2))
 
     -- all its people share a class
     module _ {crowd : ℕ} (some : crowd ≡ 0 → ⊥) (shared : Shared people c (getD dom s 0) crowd) where
       of-plan : (π : Plan) → Takes steps people dom π → Crowd people c (π s) crowd
       of-plan π t = let l = w .rest s (low .has) .0 in shared some (π s) (t .within s l) (t .among s l)
 
-      part′ : (u : ℕ) → hasBit wide u ≡ true → (u < steps) × (hasBit scope u ≡ true) × (hasBit left′ u ≡ false)
-      part′ u h = let r = w .fixing .part u h in (r .0, r .1, still u (r .2))
-
       -- which is had already
-      pub settling-joins : (bitAnd used crowd ≡ 0 → ⊥) → Settling steps people c scope dom left′ used heads wide
+      pub settling-joins : (bitAnd used crowd ≡ 0 → ⊥) → Settling steps people c scope dom left′ used labels wide
       settling-joins meets =
           record {
-            fixing = record {
-              few = w .fixing .few;
-              part = part′;
-              number = λ π t.
-                  let o = met π t in
-                  let b = bound-of steps (λ u. c (π u)) in
-                  w .fixing .number π t
-                  ∙ sym (distinct-joins steps (b .0) (settled scope wide left) (settled scope wide left′) (λ u. c (π u)) s adds (λ u l h. b .1 u l)
-                  (o .0) (o .1) (o .2) (o .3));
-              people-of = λ π t p l h. let o = w .fixing .people-of π t p l h in (o .0, o .1, grows (o .0) (o .2), o .3);
-              classes-of = λ π t p u l m h e.
-                  by-cases (eqb u s)
-                  (λ x. let o = met π t in
-                  w .fixing .classes-of π t p (o .0) l (o .1) (o .2) (e ∙ ap (λ (y : ℕ). c (π y)) (eqb-true u s x) ∙ sym (o .3)))
-                  (λ x. w .fixing .classes-of π t p u l m (shrinks u (eqb-false u s x) h) e);
-            };
+            part = part′;
             rest = rest′;
-            fresh = λ u h. w .fresh u (removed-was gone u h);
+            names = λ π t.
+                let o = met π t in
+                labels-more (w .names π t) adds
+                (added-had (subst (λ (x : ℕ). hasBit labels x ≡ true) (name-same people c (π (o .0)) (π s) (o .3)) (w .names π t .has (o .0) (o .1) (o .2))));
+            used-by = λ π t.
+                let v = w .used-by π t in
+                record {
+                  people-of = λ p l h. let o = v .people-of p l h in (o .0, o .1, grows (o .0) (o .2), o .3);
+                  classes-of = λ p u l m h e.
+                      by-cases (eqb u s)
+                      (λ x. let o = met π t in v .classes-of p (o .0) l (o .1) (o .2) (e ∙ ap (λ (y : ℕ). c (π y)) (eqb-true u s x) ∙ sym (o .3)))
+                      (λ x. v .classes-of p u l m (adds .others u (eqb-false u s x) ∙ h) e);
+                };
           }
         where
           met : (π : Plan) → Takes steps people dom π → (u : ℕ) × (u < steps) × (settled scope wide left u ≡ true) × (c (π u) ≡ c (π s))
           met π t =
               let k = some-bit (bitAnd used crowd) meets in
               let o = of-plan π t .only (k .0) (and-bit-right used crowd (k .0) (k .1)) in
-              let v = w .fixing .people-of π t (k .0) (o .0) (and-bit-left used crowd (k .0) (k .1)) in
+              let v = w .used-by π t .people-of (k .0) (o .0) (and-bit-left used crowd (k .0) (k .1)) in
               (v .0, v .1, v .2, sym (v .3) ∙ o .1)
 
-      -- which is new
-      pub settling-new : bitAnd used crowd ≡ 0 → {heads′ : ℕ} → Added heads s heads′ → Settling steps people c scope dom left′ (bitOr used crowd) heads′ wide
-      settling-new meets {heads′} more =
-          record {
-            fixing = record {
-              few = λ u h.
-                  by-cases (eqb u s)
-                  (λ x. subst (λ (y : ℕ). y < steps) (sym (eqb-true u s x)) (adds .below))
-                  (λ x. w .fixing .few u (sym (added-other more u (eqb-false u s x)) ∙ h));
+      -- whose label is its first person
+      module _ {name labels′ : ℕ} (lowest : Lowest crowd name) (more : Added labels name labels′) where
+        pub settling-more : Settling steps people c scope dom left′ (bitOr used crowd) labels′ wide
+        settling-more =
+            record {
               part = part′;
-              number = λ π t.
-                  let b = bound-of steps (λ u. c (π u)) in
-                  count-insert steps (hasBit heads) (hasBit heads′) s (adds .below) (w .fresh s (low .has)) (added-has more)
-                  (λ u l d. sym (added-other more u d))
-                  ∙ ap suc (w .fixing .number π t)
-                  ∙ sym (distinct-new steps (b .0) (settled scope wide left) (settled scope wide left′) (λ u. c (π u)) s adds (λ u l h. b .1 u l) (unmet π t));
-              people-of = λ π t p l h.
-                  or-cases (hasBit used p) (hasBit crowd p) (sym (or-bit used crowd p) ∙ h)
-                  (λ x. let o = w .fixing .people-of π t p l x in (o .0, o .1, grows (o .0) (o .2), o .3))
-                  (λ x. (s, adds .below, adds .has, of-plan π t .only p x .1));
-              classes-of = λ π t p u l m h e.
-                  or-bit used crowd p
-                  ∙ by-cases (eqb u s)
-                  (λ x. or-right (hasBit used p) (hasBit crowd p) (of-plan π t .has p l (e ∙ ap (λ (y : ℕ). c (π y)) (eqb-true u s x))))
-                  (λ x. or-left (hasBit used p) (hasBit crowd p) (w .fixing .classes-of π t p u l m (shrinks u (eqb-false u s x) h) e));
-            };
-            rest = rest′;
-            fresh = λ u h. added-other more u (removed-differs gone u h) ∙ w .fresh u (removed-was gone u h);
-          }
-        where
-          unmet : (π : Plan) → Takes steps people dom π → (u : ℕ) → u < steps → settled scope wide left u ≡ true → c (π u) ≡ c (π s) → ⊥
-          unmet π t u l h e =
-              let k = t .within s (adds .below) in
-              true-false (of-plan π t .has (π s) k refl)
-              (and-apart used crowd (π s) meets (w .fixing .classes-of π t (π s) u k l h (sym e)))
+              rest = rest′;
+              names = λ π t.
+                  labels-more (w .names π t) adds
+                  (subst (λ (x : ℕ). Added labels x labels′) (lowest-name people c (of-plan π t) lowest) more);
+              used-by = λ π t.
+                  let v = w .used-by π t in
+                  record {
+                    people-of = λ p l h.
+                        or-cases (hasBit used p) (hasBit crowd p) (sym (or-bit used crowd p) ∙ h)
+                        (λ x. let o = v .people-of p l x in
+                        (o .0, o .1, grows (o .0) (o .2), o .3))
+                        (λ x. (s, adds .below, adds .has, of-plan π t .only p x .1));
+                    classes-of = λ p u l m h e.
+                        or-bit used crowd p
+                        ∙ by-cases (eqb u s)
+                        (λ x. or-right (hasBit used p) (hasBit crowd p) (of-plan π t .has p l (e ∙ ap (λ (y : ℕ). c (π y)) (eqb-true u s x))))
+                        (λ x. or-left (hasBit used p) (hasBit crowd p) (v .classes-of p u l m (adds .others u (eqb-false u s x) ∙ h) e));
+                  };
+            }
 
-  pub settling-all : {left used heads wide : ℕ} → Settling steps people c scope dom left used heads wide → left ≡ 0
-      → Fixing steps people c scope dom 0 used heads wide
-  settling-all {used = used} {heads = heads} {wide = wide} w e = subst (λ (x : ℕ). Fixing steps people c scope dom x used heads wide) e (w .fixing)
+  -- at the end, the count of the labels is that of the classes
+  pub settling-all : {left used labels wide groups : ℕ} → Settling steps people c scope dom left used labels wide → left ≡ 0
+      → ((m : ℕ) (S : ℕ → Bool) (f : ℕ → ℕ) → LabelsOf m S f labels → groups ≡ distinct m S f) → Fixing steps people c scope dom used groups wide
+  settling-all {left} {used} {labels} {wide} w e counted =
+      let v = subst (λ (x : ℕ). Settling steps people c scope dom x used labels wide) e w in
+      record {
+        part = λ s h. let r = v .part s h in (r .0, r .1);
+        number = λ π t.
+            counted steps (settled scope wide 0) _ (v .names π t)
+            ∙ names-distinct people c steps (settled scope wide 0) π (λ s l h. t .within s l);
+        used-by = v .used-by;
+      }
 
   -- the open steps are of the steps
-  pub wide-below : {left used heads wide : ℕ} → Fixing steps people c scope dom left used heads wide → wide < 2 ^ steps
-  wide-below {wide = wide} f = bits-below steps wide (λ s h. f .part s h .0)
-
-  -- where no step of the scope is open, the heads are as many as its classes in every plan of the domains
-  pub settled-count : {used heads : ℕ} → Fixing steps people c scope dom 0 used heads 0 → (π : Plan) → Takes steps people dom π
-      → count steps (hasBit heads) ≡ distinct steps (hasBit scope) (λ s. c (π s))
-  settled-count f π t =
-      f .number π t
-      ∙ distinct-scope-cong steps (settled scope 0 0) (hasBit scope) (λ s. c (π s))
-      (λ s l. bool-ext _ _ (settled-scope scope 0 0 s) (λ h. settled-of scope 0 0 s h (empty-lacks s) (empty-lacks s)))
+  pub wide-below : {left used labels wide : ℕ} → Settling steps people c scope dom left used labels wide → wide < 2 ^ steps
+  wide-below {wide = wide} w = bits-below steps wide (λ s h. w .part s h .0)

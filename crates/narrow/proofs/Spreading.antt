@@ -21,7 +21,8 @@ use Rattle.workflow.specs.Problem.{Plan, distinct}
 use Rattle.workflow.proofs.Counts.{distinct-le-scope}
 use Rattle.workflow.proofs.Occurs.{occurs, occurs-of, occurs-at, distinct-occurs}
 use Rattle.pattern.specs.Tables.{mayIn}
-use Rattle.narrow.specs.Domains.{Takes, Grouped}
+use Rattle.eligible.specs.Classes.{Grouped}
+use Rattle.narrow.specs.Domains.{Takes}
 use Rattle.narrow.specs.Fixing.{settled, Fixing}
 use Rattle.narrow.specs.Spreading.{AllOf, Firsts, Spread}
 use Rattle.bits.proofs.Masks.{xor-all, bits-below, or-left, or-right}
@@ -108,11 +109,11 @@ classes-to n m scope part cl c r h =
     omega (arith, distinct-le-scope m r c)
 
 -- the classes of a rule in a plan of the domains: those that are had, and those that the open steps can add
-pub count-spread : {steps people : ℕ} {c : ℕ → ℕ} {scope : ℕ} {dom : List ℕ} {used heads wide number : ℕ} → Fixing steps people c scope dom 0 used heads wide
+pub count-spread : {steps people : ℕ} {c : ℕ → ℕ} {scope : ℕ} {dom : List ℕ} {used groups wide number : ℕ} → Fixing steps people c scope dom used groups wide
     → Spread people c wide used dom number → (π : Plan) → Takes steps people dom π
-    → distinct steps (hasBit scope) (λ u. c (π u)) ≤ count steps (hasBit heads) + number
-count-spread {steps} {people} {c} {scope} {dom} {used} {heads} {wide} {number} f w π takes =
-    let a : count steps (hasBit heads) ≡ distinct steps (settled scope wide 0) (λ u. c (π u)) = f .number π takes in
+    → distinct steps (hasBit scope) (λ u. c (π u)) ≤ groups + number
+count-spread {steps} {people} {c} {scope} {dom} {used} {groups} {wide} {number} f w π takes =
+    let a : groups ≡ distinct steps (settled scope wide 0) (λ u. c (π u)) = f .number π takes in
     let b : distinct steps (hasBit scope) (λ u. c (π u)) ≤ distinct steps (settled scope wide 0) (λ u. c (π u)) + count 64 (hasBit (w .some))
     = classes-to steps 64 (hasBit scope) (settled scope wide 0) (λ u. c (π u)) c (hasBit (w .some)) brings in
     let e : number ≡ count 64 (hasBit (w .some)) = w .its-number in
@@ -127,6 +128,6 @@ count-spread {steps} {people} {c} {scope} {dom} {used} {heads} {wide} {number} f
         let is-open : hasBit wide s ≡ true
         = by-cases (hasBit wide s) (λ t. t) (λ t. absurd (new s l (settled-of scope wide 0 s h t (empty-lacks s)) refl)) in
         let out : hasBit used (π s) ≡ false
-        = is-false _ (λ t. let o = f .people-of π takes (π s) (takes .within s l) t in new (o .0) (o .1) (o .2) (sym (o .3))) in
+        = is-false _ (λ t. let o = f .used-by π takes .people-of (π s) (takes .within s l) t in new (o .0) (o .1) (o .2) (sym (o .3))) in
         let q = w .each s (π s) is-open (takes .within s l) (takes .among s l) out in
         occurs-of (hasBit (w .some)) c 64 (c (π s)) (q .0) (q .1) (q .2) (q .3)

@@ -5,7 +5,8 @@ use mathlib.Core.Logic.{_⊎_}
 use mathlib.Core.Path.{_≡_}
 use Prim.Native.Nat.{ℕ, _+_, _<_}
 use Rattle.bits.specs.Word.{hasBit}
-use Rattle.pattern.specs.Rule.{leastIn, mostIn}
+use Rattle.pattern.specs.Eligible.{CanBeMet}
+use Rattle.pattern.specs.Rule.{leastIn, mostIn, unpacked}
 use Rattle.pattern.specs.Tables.{mayIn}
 use Rattle.narrow.specs.Domains.{Fewer}
 use Rattle.narrow.specs.Parting.{Limited}
@@ -37,10 +38,10 @@ pub record Restricted (steps people : ℕ) (dom dom′ : List ℕ) (failed : Boo
   pub done : Restricting steps people dom dom′ 0 changed
   pub lost : failed ≡ true → (s : ℕ) × (hasBit steps s ≡ true) × ((p : ℕ) → mayIn dom s p ≡ true → hasBit people p ≡ true → ⊥)
 
--- no plan can meet a rule: too many classes are had, or too few with one for each open step, or too few with those that these can add
+-- no plan can meet a rule: by its count so far and the open steps, or because these can add too few classes
 abbrev pub Hopeless : ℕ → (ℕ → ℕ) → ℕ → ℕ → ℕ → List ℕ → ℕ → ℕ → Type 0
 Hopeless people c rule steps used dom groups wide =
-    (mostIn rule < groups) ⊎ ((groups + wide < leastIn rule) ⊎ Short people c steps used dom groups (leastIn rule))
+    (CanBeMet (unpacked rule) groups wide → ⊥) ⊎ Short people c rule steps used dom groups
 
 -- r has everybody whom a rule leaves to its open steps: those who can share the one class, those whom the upper limit leaves, or those of
 -- whom its two ends ask no more

@@ -2,9 +2,11 @@
 use mathlib.Core.Bool.{true, false}
 use mathlib.Core.List.{List}
 use mathlib.Core.Path.{_≡_}
-use Prim.Native.Nat.{ℕ, _+_, _<_}
+use Prim.Native.Nat.{ℕ, _<_}
 use Rattle.bits.specs.Below.{count}
 use Rattle.bits.specs.Word.{hasBit}
+use Rattle.pattern.specs.Eligible.{CanBeMet}
+use Rattle.pattern.specs.Rule.{unpacked}
 use Rattle.pattern.specs.Tables.{mayIn}
 
 -- r has all that the sets of the steps have, but for those of `left`
@@ -26,8 +28,8 @@ pub record Spread (people : ℕ) (c : ℕ → ℕ) (steps used : ℕ) (dom : Lis
   pub its-number : number ≡ count 64 (hasBit some)
   pub each : (s p : ℕ) → hasBit steps s ≡ true → p < people → mayIn dom s p ≡ true → hasBit used p ≡ false → SomebodyOf c some (c p)
 
--- the classes that are had and those that the steps can add are fewer than the lower limit
-pub record Short (people : ℕ) (c : ℕ → ℕ) (steps used : ℕ) (dom : List ℕ) (groups least : ℕ) : Type 0 where
+-- a rule cannot be met with the classes that are had and those that the steps can add
+pub record Short (people : ℕ) (c : ℕ → ℕ) (rule steps used : ℕ) (dom : List ℕ) (groups : ℕ) : Type 0 where
   pub number : ℕ
   pub spread : Spread people c steps used dom number
-  pub less : groups + number < least
+  pub unmet : CanBeMet (unpacked rule) groups number → ⊥

@@ -1,14 +1,14 @@
 // Open steps of a rule that cannot share a class.
-use super::sets::mates;
 use bits::set;
 use bits::set::ALL;
 use bits::sizes::Crowds;
 use bits::sizes::Domains;
 use bits::small;
+use eligible::classes::mates;
 ghost use mathlib.Core.Path.{_≡_};
 ghost use Prim.Native.Nat.{_<_};
 ghost use lib.ListN.{length};
-ghost use Rattle.narrow.specs.Domains.{OneLevel, ForClasses};
+ghost use Rattle.eligible.specs.Classes.{OneLevel, ForClasses};
 ghost use Rattle.narrow.specs.Fixing.{Reaching};
 ghost use Rattle.narrow.specs.Parting.{Apart};
 

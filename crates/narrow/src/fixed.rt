@@ -1,20 +1,21 @@
 // What the domains of a rule's steps settle of its count.
-use super::sets::mates;
 use bits::set;
 use bits::sizes::Crowds;
 use bits::sizes::Domains;
 use bits::small;
+use eligible::classes::mates;
+use eligible::count::class_count;
 ghost use mathlib.Core.Path.{_≡_};
-ghost use Prim.Native.Nat.{ℕ, _^_, _<_};
+ghost use Prim.Native.Nat.{ℕ, _^_, _≤_, _<_};
 ghost use lib.ListN.{length};
-ghost use Rattle.narrow.specs.Domains.{OneLevel, ForClasses};
+ghost use Rattle.eligible.specs.Classes.{OneLevel, ForClasses};
 ghost use Rattle.narrow.specs.Fixing.{Shared, Fixing};
 
-// The classes that some steps of a scope have in every plan of the domains: their people, and a step
-// for each of them; and the steps that can still have several.
+// The classes that some steps of a scope have in every plan of the domains: their people, and how many
+// classes they are; and the steps that can still have several.
 pub struct Forced {
     pub used: u64,
-    pub heads: u16,
+    pub count: usize,
     pub wide: u16,
 }
 
@@ -33,14 +34,14 @@ fn shared(crowd: &Crowds, level: usize, domain: u64) -> u64
     mask
 }
 
-// What the domains settle of a scope at a level.
+// What the domains settle of a scope at a level. The label of a class is its first person.
 pub fn fixed(crowd: &Crowds, level: usize, scope: u16, dom: &Domains) -> Forced
     requires { ⌜ OneLevel (now crowd) level × (scope < 4096) × (length (now dom) ≡ 12) ⌝ }
-    ensures { λ r. ⌜ (r .wide < 4096) × ((steps : ℕ) → scope < 2 ^ steps
-        → ForClasses (now (crowd .entry)) level (λ people c. Fixing steps people c scope (now (dom .entry)) 0 (r .used) (r .heads) (r .wide))) ⌝ }
+    ensures { λ r. ⌜ (r .wide < 4096) × (r .count ≤ 64) × ((steps : ℕ) → scope < 2 ^ steps
+        → ForClasses (now (crowd .entry)) level (λ people c. Fixing steps people c scope (now (dom .entry)) (r .used) (r .count) (r .wide))) ⌝ }
 {
     let mut used: u64 = 0;
-    let mut heads: u16 = 0;
+    let mut labels: u64 = 0;
     let mut wide: u16 = 0;
     let mut left = scope;
     while left != 0 {
@@ -52,15 +53,16 @@ pub fn fixed(crowd: &Crowds, level: usize, scope: u16, dom: &Domains) -> Forced
             wide = small::with(wide, s);
             continue;
         }
+        // A class that is had has its label.
         if used & mask != 0 {
             continue;
         }
         used = used | mask;
-        heads = small::with(heads, s);
+        labels = set::with(labels, set::lowest(mask));
     }
     Forced {
         used: used,
-        heads: heads,
+        count: class_count(labels),
         wide: wide,
     }
 }

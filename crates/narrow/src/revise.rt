@@ -16,7 +16,8 @@ ghost use Prim.Native.Nat.{_<_, _≤_};
 ghost use lib.ListN.{length};
 ghost use lib.Count.{ones};
 ghost use Rattle.pattern.specs.Rule.{levelIn, mostIn, scopeIn, unpacked};
-ghost use Rattle.narrow.specs.Domains.{OneLevel, ForClasses, ForJobs, Revised};
+ghost use Rattle.eligible.specs.Classes.{OneLevel, ForClasses, ForJobs};
+ghost use Rattle.narrow.specs.Domains.{Revised};
 ghost use Rattle.narrow.specs.Narrowing.{Common, AskedOnly, Restricted, Hopeless, Allowed};
 ghost use Rattle.narrow.specs.Parting.{Limited};
 
@@ -44,7 +45,7 @@ fn common(crowd: &Crowds, level: usize, steps: u16, dom: &Domains) -> u64
 
 // The people among whom a rule leaves its open steps: `groups` classes are had, and `wide` steps are open.
 fn left_to(used: u64, groups: usize, wide: usize, lowest: usize, highest: usize) -> u64
-    requires { ⌜ (groups ≤ 16) × (wide ≤ 16) ⌝ }
+    requires { ⌜ (groups ≤ 64) × (wide ≤ 16) ⌝ }
     ensures { λ r. ⌜ AskedOnly used groups wide lowest highest r ⌝ }
 {
     if groups == highest {
@@ -59,12 +60,12 @@ fn left_to(used: u64, groups: usize, wide: usize, lowest: usize, highest: usize)
 // The people among whom the upper limit of a rule leaves the open steps: those that are apart have a class
 // each, so that too many of them leave nobody, and just enough leave the classes that these have.
 fn upper(crowd: &Crowds, r: u32, forced: Forced, dom: &Domains) -> u64
-    requires { ⌜ OneLevel (now crowd) (levelIn r) × (forced .wide < 4096) × (length (now dom) ≡ 12) ⌝ }
+    requires { ⌜ OneLevel (now crowd) (levelIn r) × (forced .wide < 4096) × (forced .count ≤ 64) × (length (now dom) ≡ 12) ⌝ }
     ensures { λ a. ⌜ ForClasses (now (crowd .entry)) (levelIn r)
-        (λ people c. Limited people c (forced .wide) (forced .used) (now (dom .entry)) (ones (forced .heads)) (mostIn r) a) ⌝ }
+        (λ people c. Limited people c (forced .wide) (forced .used) (now (dom .entry)) (forced .count) (mostIn r) a) ⌝ }
 {
     let parts = apart(crowd, rule::level(r), forced.wide, forced.used, dom);
-    let total = small::size(forced.heads) + small::size(parts.heads);
+    let total = forced.count + small::size(parts.heads);
     let highest = rule::most(r);
     if total > highest {
         return 0;
@@ -78,39 +79,32 @@ fn upper(crowd: &Crowds, r: u32, forced: Forced, dom: &Domains) -> u64
 // Whether no plan of the domains can meet a rule. How many classes the open steps can add is not asked where
 // there are two at most: it takes its time.
 fn hopeless(crowd: &Crowds, r: u32, forced: Forced, dom: &Domains) -> bool
-    requires { ⌜ OneLevel (now crowd) (levelIn r) × (forced .wide < 4096) × (length (now dom) ≡ 12) ⌝ }
+    requires { ⌜ OneLevel (now crowd) (levelIn r) × (forced .wide < 4096) × (forced .count ≤ 64) × (length (now dom) ≡ 12) ⌝ }
     ensures { λ a. ⌜ (a ≡ true → ForClasses (now (crowd .entry)) (levelIn r)
-        (λ people c. Hopeless people c r (forced .wide) (forced .used) (now (dom .entry)) (ones (forced .heads)) (ones (forced .wide)))) ⌝ }
+        (λ people c. Hopeless people c r (forced .wide) (forced .used) (now (dom .entry)) (forced .count) (ones (forced .wide)))) ⌝ }
 {
-    let groups = small::size(forced.heads);
-    if groups > rule::most(r) {
-        return true;
-    }
-    let lowest = rule::least(r);
-    if groups >= lowest {
-        return false;
-    }
+    let groups = forced.count;
     let open = small::size(forced.wide);
-    if groups + open < lowest {
+    if !rule::can_be_met(r, groups, open) {
         return true;
+    }
+    if groups >= rule::least(r) {
+        return false;
     }
     if groups + open <= 2 {
         return false;
     }
     let fresh = spread(crowd, rule::level(r), forced.wide, forced.used, dom);
-    if groups + fresh < lowest {
-        return true;
-    }
-    false
+    !rule::can_be_met(r, groups, fresh)
 }
 
 // The people among whom a rule leaves its open steps.
 fn allowed(crowd: &Crowds, r: u32, forced: Forced, dom: &Domains) -> u64
-    requires { ⌜ OneLevel (now crowd) (levelIn r) × (forced .wide < 4096) × (length (now dom) ≡ 12) ⌝ }
+    requires { ⌜ OneLevel (now crowd) (levelIn r) × (forced .wide < 4096) × (forced .count ≤ 64) × (length (now dom) ≡ 12) ⌝ }
     ensures { λ a. ⌜ ForClasses (now (crowd .entry)) (levelIn r)
-        (λ people c. Allowed people c r (forced .wide) (forced .used) (now (dom .entry)) (ones (forced .heads)) (ones (forced .wide)) a) ⌝ }
+        (λ people c. Allowed people c r (forced .wide) (forced .used) (now (dom .entry)) (forced .count) (ones (forced .wide)) a) ⌝ }
 {
-    let groups = small::size(forced.heads);
+    let groups = forced.count;
     let open = small::size(forced.wide);
     let highest = rule::most(r);
     if groups == 0 {

@@ -1,14 +1,14 @@
 // How many classes the open steps of a rule can add.
 use super::sets::all_of;
-use super::sets::mates;
 use bits::set;
 use bits::set::ALL;
 use bits::sizes::Crowds;
 use bits::sizes::Domains;
+use eligible::classes::mates;
 ghost use mathlib.Core.Path.{_≡_};
 ghost use Prim.Native.Nat.{_<_, _≤_};
 ghost use lib.ListN.{length};
-ghost use Rattle.narrow.specs.Domains.{OneLevel, ForClasses};
+ghost use Rattle.eligible.specs.Classes.{OneLevel, ForClasses};
 ghost use Rattle.narrow.specs.Spreading.{Firsts, Spread};
 
 // One person for each class of a domain.

@@ -11,7 +11,7 @@ use Rattle.workflow.proofs.Same.{renamed-same}
 use Rattle.pattern.specs.declared.Size.{Size}
 use Rattle.pattern.specs.Given.{Ruled, Given, Leaders, Classed}
 use Rattle.pattern.specs.Pattern.{Refining}
-use Rattle.pattern.specs.Realize.{leader}
+use Rattle.pattern.specs.Realize.{nameOf, leader}
 use Rattle.pattern.specs.Tables.{classIn, jobIn}
 use Rattle.pattern.proofs.Leader.{leader-same, leader-tells}
 
@@ -25,7 +25,7 @@ module _ (size : Size) (a b rule : List ℕ) (forth : Joined size a b) (back : J
       record { finer = λ q p p′ l m h h′ e. forth q p p′ l (omega arith) h h′ (w .finer q p p′ l m h h′ (back (suc q) p p′ (omega arith) m h h′ e)) }
 
   pub leader-moves : (q p : ℕ) → 1 ≤ q → q ≤ size .levels → p < size .people → leader (jobIn size a rule) q p ≡ leader (jobIn size b rule) q p
-  unfolding leader
+  unfolding nameOf
   leader-moves q p l m h =
       first-cong (size .people) _ _
       (λ x k. bool-ext _ _ (λ t. eq-eqb _ _ (forth q x p l m k h (eqb-true _ _ t))) (λ t. eq-eqb _ _ (back q x p l m k h (eqb-true _ _ t))))

@@ -14,10 +14,14 @@ groupCount steps placed label r = distinct steps (λ s. r .scope s && placed s) 
 abbrev pub openCount : ℕ → (ℕ → Bool) → Rule → ℕ
 openCount steps placed r = count steps (λ s. r .scope s && not (placed s))
 
+-- a rule can be met with a count that may still grow by `more`: it is not too great, and not too small with so many more
+pub record CanBeMet (r : Rule) (n more : ℕ) : Type 0 where
+  pub most : n ≤ r .most
+  pub least : r .least ≤ n + more
+
 -- the rule can still be met: the groups are not too many, and would not be too few if each open step opened one
-pub record Possible (steps : ℕ) (placed : ℕ → Bool) (label : Label) (r : Rule) : Type 0 where
-  pub most : groupCount steps placed label r ≤ r .most
-  pub least : r .least ≤ groupCount steps placed label r + openCount steps placed r
+abbrev pub Possible : ℕ → (ℕ → Bool) → Label → Rule → Type 0
+Possible steps placed label r = CanBeMet r (groupCount steps placed label r) (openCount steps placed r)
 
 -- every step that some rule names is placed
 abbrev pub AllNamed : Job → (ℕ → Bool) → Type 0

@@ -27,9 +27,13 @@ Staffed j may S C = (s : ℕ) → s < j .steps → S s ≡ true → (p : ℕ) ×
 unfoldable pub fibre : (ℕ → Bool) → (ℕ → ℕ) → ℕ → ℕ → Bool
 fibre S c v s = S s && eqb (c s) v
 
--- a class is named by its first person in crew order: the name of the class of p
-unfoldable pub leader : Job → ℕ → ℕ → ℕ
-leader j q p = first (j .people) (λ p′. eqb (j .class q p′) (j .class q p))
+-- a class is named by its first person in crew order: the name of the class of p, c giving the class of each of so many people
+unfoldable pub nameOf : ℕ → (ℕ → ℕ) → ℕ → ℕ
+nameOf people c p = first people (λ p′. eqb (c p′) (c p))
+
+-- at a level of a job
+abbrev pub leader : Job → ℕ → ℕ → ℕ
+leader j q p = nameOf (j .people) (j .class q) p
 
 -- the groups inside S: each is named by its label, c giving the label of each step
 unfoldable pub groups : (ℕ → Bool) → (ℕ → ℕ) → ℕ → Bool

@@ -1,8 +1,10 @@
 // A rule as one number: the mask of its scope in 16 bits, then its level, the least and the greatest count,
-// four bits each.
+// four bits each. And the comparison of a count with them.
 ghost use mathlib.Core.Path.{_≡_};
-ghost use Prim.Native.Nat.{_<_};
-ghost use Rattle.pattern.specs.Rule.{scopeIn, levelIn, leastIn, mostIn, Packed};
+ghost use Prim.Native.Nat.{_<_, _≤_};
+ghost use Rattle.bits.specs.Says.{Says};
+ghost use Rattle.pattern.specs.Rule.{scopeIn, levelIn, leastIn, mostIn, unpacked, Packed};
+ghost use Rattle.pattern.specs.Eligible.{CanBeMet};
 
 // The mask of the steps of its scope.
 pub fn scope(rule: u32) -> u16
@@ -30,6 +32,17 @@ pub fn most(rule: u32) -> usize
     ensures { λ r. ⌜ (r ≡ mostIn rule) × (r < 16) ⌝ }
 {
     (rule / 16777216 % 16) as usize
+}
+
+// Whether a rule can be met with this count, which may still grow by `more`.
+pub fn can_be_met(rule: u32, count: usize, more: usize) -> bool
+    requires { ⌜ (count ≤ 64) × (more ≤ 64) ⌝ }
+    ensures { λ r. ⌜ Says r (CanBeMet (unpacked rule) count more) ⌝ }
+{
+    if count > most(rule) {
+        return false;
+    }
+    least(rule) <= count + more
 }
 
 // The number of a rule.

@@ -1,2 +1,1 @@
 pub mod Longs
-pub mod Steps

@@ -9,7 +9,7 @@ use Rattle.bits.specs.Word.{hasBit}
 use Rattle.workflow.specs.Problem.{RuleOk, Job, Plan, Met, InBounds, distinct}
 use Rattle.pattern.specs.declared.Size.{Size}
 use Rattle.pattern.specs.Given.{Ruled, Classed}
-use Rattle.pattern.specs.Realize.{leader}
+use Rattle.pattern.specs.Realize.{nameOf, leader}
 use Rattle.pattern.specs.Rule.{levelIn, scopeIn, unpacked}
 use Rattle.pattern.specs.Tables.{classIn, jobIn}
 use Rattle.relax.specs.Relaxed.{Carries, Relaxes}
@@ -39,7 +39,7 @@ module _ (size : Size) (class rule : List ℕ) (given : Classed size class rule)
 
   -- names of classes do not depend on rules
   leaders-now : (r p : ℕ) → 1 ≤ r → r ≤ size .levels → p < size .people → classIn class r p ≡ leader relaxed r p
-  unfolding leader
+  unfolding nameOf
   leaders-now r p a b l = given .leaders r p a b l
 
   ruled-now : Ruled size rule′

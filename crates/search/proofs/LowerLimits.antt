@@ -20,13 +20,13 @@ use Rattle.bits.proofs.Counting.{and-of, is-false, count-true, count-false, cou
 use Rattle.bits.proofs.Ones.{ones-bits}
 use Rattle.bits.proofs.SetLaws.{empty-lacks, or-bit, xor-bit, has-below, added-has, added-keeps, added-other, removed-was, removed-differs}
 use Rattle.workflow.specs.Problem.{Job, Valid, opens, distinct}
-use Rattle.workflow.proofs.Counts.{opens-scope, opens-new, distinct-alike}
+use Rattle.workflow.proofs.Counts.{opens-scope, opens-new}
 use Rattle.matching.specs.Assignment.{Assignment, Covers, inMask, suits}
 use Rattle.pattern.specs.declared.Size.{Size}
 use Rattle.pattern.specs.Rule.{levelIn, leastIn, scopeIn}
 use Rattle.pattern.specs.Tables.{classIn, mayIn, jobIn}
 use Rattle.pattern.specs.Realize.{leader}
-use Rattle.pattern.proofs.Leader.{leader-le, leader-same, leader-tells}
+use Rattle.pattern.proofs.Leader.{leader-le, names-distinct}
 use Rattle.realize.specs.Parts.{Offers}
 use Rattle.pattern.specs.Given.{Given}
 use Rattle.search.specs.Existence.{Existence}
@@ -374,12 +374,7 @@ module _ {size : Size} {crowd rule : List ℕ} (given : Given size crowd rule) (
   -- there are as many names as classes
   names-count : (π : ℕ → ℕ) → ((s : ℕ) → s < size .steps → π s < size .people) → (q : ℕ) (scope : ℕ → Bool)
       → distinct (size .steps) scope (λ s. classIn crowd q (π s)) ≡ distinct (size .steps) scope (λ s. leader j q (π s))
-  names-count π within q scope =
-      distinct-alike (size .steps) scope _ _
-      (record {
-        forth = λ s t a b h k e. leader-same j q (π s) (π t) e;
-        back = λ s t a b h k e. leader-tells j q (π s) (π t) (within s a) (within t b) e;
-      })
+  names-count π within q scope = sym (names-distinct (size .people) (classIn crowd q) (size .steps) scope π (λ s l h. within s l))
 
   -- a lower limit that is not reached
   pub existence-short : (plan : List ℕ) → length plan ≡ 12 → (r : Bool) → Limits (size .steps) (size .rules) rule reach r → not r ≡ true

@@ -46,10 +46,12 @@ module _ {size : Size} {crowd rule : List ℕ}
         marked = λ i h.
             let ok = given .ruled .rule-ok i (below i h) in
             record {
-              sized = p .sized;
-              from = ok .from;
-              to = omega (arith, ok .to, given .ruled .few-levels);
-              below = inside-small p;
+              row = record {
+                sized = p .sized;
+                from = ok .from;
+                to = omega (arith, ok .to, given .ruled .few-levels);
+                below = inside-small p;
+              };
               labels = λ s k.
                   let l = p .pattern .labelled (levelIn (getD rule i 0)) (ok .from) (ok .to) .below s (p .inside s k) k in
                   omega (arith, given .ruled .few-steps);

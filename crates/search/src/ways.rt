@@ -7,6 +7,8 @@ use bits::sizes::Reach;
 use bits::sizes::Rules;
 use bits::sizes::Weights;
 use bits::small;
+use eligible::count::class_count;
+use eligible::groups::labels_of;
 use pattern::Size;
 use pattern::rule;
 use realize::parts::groups_of;
@@ -18,21 +20,6 @@ ghost use Rattle.pattern.specs.Rule.{levelIn, scopeIn};
 
 // Any label.
 const ANY: u16 = 0xffff;
-
-// The labels of some steps at the level whose labels begin at `top`.
-fn labels_of(steps: u16, top: usize, label: &Labels) -> u16
-    requires { ⌜ (steps < 4096) × (top ≤ 24) × (length (now label) ≡ 36) ⌝ }
-{
-    let mut found: u16 = 0;
-    let mut left = steps;
-    while left != 0 {
-        let next = small::take(left);
-        left = next.rest;
-        let s = next.first;
-        found = small::with(found, (label[top + s] % 16) as usize);
-    }
-    found
-}
 
 // The steps of a scope that are in a set.
 fn within(scope: u16, steps: u16) -> u16
@@ -68,8 +55,10 @@ fn by_rule(r: u32, placed: u16, label: &Labels, free: &mut [u16; LABEL_ENTRIES])
         return;
     }
     let top = (rule::level(r) - 1) * MOST_STEPS;
-    let labels = labels_of(within(scope, placed), top, label);
-    let groups = small::size(labels);
+    let had = labels_of(within(scope, placed), rule::level(r), label);
+    let groups = class_count(had);
+    // Labels are steps: a short word holds them.
+    let labels = (had % 65536) as u16;
     if groups >= rule::most(r) {
         leave(left, top, labels, free);
         return;

@@ -23,7 +23,7 @@ use Rattle.workflow.proofs.Same.{renamed-same, same-trans}
 use Rattle.pattern.specs.declared.Size.{Size}
 use Rattle.pattern.specs.Given.{Ruled, Classed}
 use Rattle.pattern.specs.Pattern.{Refining}
-use Rattle.pattern.specs.Realize.{leader}
+use Rattle.pattern.specs.Realize.{nameOf, leader}
 use Rattle.pattern.specs.Rule.{levelIn, scopeIn}
 use Rattle.pattern.specs.Tables.{classIn, mayIn, ruleIn, jobIn}
 use Rattle.levels.specs.declared.Tables.{Tables}
@@ -108,7 +108,7 @@ module _ (people steps rules : ℕ) (j : sheet.SheetJob) (r : ReadableJob people
 
   -- the names of the classes are their first people
   leaders : (q p : ℕ) → 1 ≤ q → q ≤ 3 → p < people → classIn class q p ≡ leader posed q p
-  unfolding leader
+  unfolding nameOf
   leaders q p a b l =
       name q p a b l
       ∙ sym (first-cong people _ _

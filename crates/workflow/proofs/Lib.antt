@@ -1,4 +1,5 @@
 pub mod Counts
+pub mod Different
 pub mod Occurs
 pub mod Valid
 pub mod Rules

@@ -4,7 +4,7 @@ use mathlib.Core.Path.{_≡_, subst, sym}
 use Prim.Native.Nat.{ℕ, zero, suc, _≤_, _<_}
 use native.Mathlib.Omega.{arith}
 use Rattle.bits.proofs.Below.{below-suc}
-use Rattle.workflow.specs.Problem.{Job, Plan, Nested, distinct}
+use Rattle.workflow.specs.Problem.{Job, Plan, Nested, distinct, OfPeople}
 use Rattle.workflow.specs.Independent.{classesOf}
 use Rattle.workflow.proofs.Counts.{distinct-finer}
 
@@ -23,7 +23,7 @@ pub proposition-2-3 : (j : Job) → Nested j → (q q′ : ℕ) → 1 ≤ q → 
 proposition-2-3 j nested q q′ a b c π s t l m e = refines j nested q q′ a b c (π s) (π t) l m e
 
 -- a count at a coarser level is at most the count at a finer one
-pub coarser-count : (j : Job) → Nested j → (q q′ : ℕ) → 1 ≤ q → q ≤ q′ → q′ ≤ j .levels → (π : Plan) → ((s : ℕ) → s < j .steps → π s < j .people)
+pub coarser-count : (j : Job) → Nested j → (q q′ : ℕ) → 1 ≤ q → q ≤ q′ → q′ ≤ j .levels → (π : Plan) → OfPeople j π
     → (scope : ℕ → Bool) → distinct (j .steps) scope (classesOf j q π) ≤ distinct (j .steps) scope (classesOf j q′ π)
 coarser-count j nested q q′ a b c π w scope =
     distinct-finer (j .steps) scope (classesOf j q π) (classesOf j q′ π)

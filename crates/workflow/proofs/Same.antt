@@ -1,12 +1,10 @@
 -- What two jobs with the same plans share, and that numbers of classes and levels do not matter. Assumes nothing.
-use mathlib.Core.Bool.{true}
 use mathlib.Core.Logic.{_↔_}
 use mathlib.Core.Path.{_≡_, sym, _∙_, ap, subst}
-use Prim.Native.Nat.{ℕ, _<_, _≤_}
+use Prim.Native.Nat.{ℕ, _<_}
 use native.Mathlib.Omega.{arith}
-use Rattle.workflow.specs.Problem.{Job, May, Plan, Valid, Satisfiable, InBounds, classCount, distinct}
+use Rattle.workflow.specs.Problem.{Job, May, Plan, OfPeople, Valid, Satisfiable, classCount, distinct}
 use Rattle.workflow.specs.First.{Found, found, nothing, planOf, firstPlan, IsFirst}
-use Rattle.workflow.specs.Independent.{Alike}
 use Rattle.workflow.specs.Same.{SamePlans, Renamed}
 use Rattle.workflow.proofs.Counts.{distinct-alike}
 use Rattle.workflow.proofs.First.{firstPlan-is-first, firstPlan-unique}
@@ -15,8 +13,7 @@ use Rattle.workflow.proofs.Valid.{valid-mono}
 
 module _ (j j′ : Job) (w : Renamed j j′) where
   -- the same classes are counted
-  counted : (i : ℕ) → i < j .rules → (π : Plan) → ((s : ℕ) → s < j .steps → π s < j .people)
-      → classCount j (j .rule i) π ≡ classCount j′ (j′ .rule i) π
+  counted : (i : ℕ) → i < j .rules → (π : Plan) → OfPeople j π → classCount j (j .rule i) π ≡ classCount j′ (j′ .rule i) π
   counted i l π within =
       distinct-alike (j .steps) (j .rule i .scope) _ _
       (record {
@@ -51,7 +48,7 @@ module _ (j j′ : Job) (w : Renamed j j′) where
 
   renamed-back : (may : May) (π : Plan) → Valid j′ may π → Valid j may π
   renamed-back may π v =
-      let within : (s : ℕ) → s < j .steps → π s < j .people
+      let within : OfPeople j π
       = λ s l. let z = v .within s (omega (arith, w .steps)) in omega (arith, w .people)
       in
       record {
@@ -64,7 +61,14 @@ module _ (j j′ : Job) (w : Renamed j j′) where
       }
 
   pub renamed-same : SamePlans j j′
-  renamed-same = record { steps = w .steps; people = w .people; valid = λ may π. (renamed-forth may π, renamed-back may π) }
+  renamed-same =
+      record {
+        steps = w .steps;
+        people = w .people;
+        rules = w .rules;
+        count = λ i l π within. sym (counted i l π within);
+        valid = λ may π. (renamed-forth may π, renamed-back may π);
+      }
 
 module _ {j j′ : Job} (w : SamePlans j j′) where
   -- jobs with the same plans have the same first plan
@@ -109,5 +113,8 @@ same-trans a b =
     record {
       steps = b .steps ∙ a .steps;
       people = b .people ∙ a .people;
+      rules = b .rules ∙ a .rules;
+      count = λ i l π within.
+          b .count i (omega (arith, a .rules)) π (λ s m. let z = within s (omega (arith, a .steps)) in omega (arith, a .people)) ∙ a .count i l π within;
       valid = λ may π. (λ v. b .valid may π .0 (a .valid may π .0 v), λ v. a .valid may π .1 (b .valid may π .1 v));
     }

@@ -35,6 +35,10 @@ May = ℕ → ℕ → Bool
 abbrev pub Plan : Type 0
 Plan = ℕ → ℕ
 
+-- each step is given one of the people
+abbrev pub OfPeople : Job → Plan → Type 0
+OfPeople j π = (s : ℕ) → s < j .steps → π s < j .people
+
 -- two plans give the steps below n the same people
 abbrev pub Agree : ℕ → Plan → Plan → Type 0
 Agree n π σ = (s : ℕ) → s < n → π s ≡ σ s
@@ -52,6 +56,16 @@ opens scope c s = scope s && not (any s (λ t. scope t && eqb (c t) (c s)))
 -- the number of different classes over the steps of a scope below n: each is counted at its first step
 unfoldable pub distinct : ℕ → (ℕ → Bool) → (ℕ → ℕ) → ℕ
 distinct n scope c = count n (opens scope c)
+
+-- what such a number says: the classes over the scope can be numbered below it, each at one of its steps
+pub record DifferentClasses (n : ℕ) (scope : ℕ → Bool) (c : ℕ → ℕ) (number : ℕ) : Type 0 where
+  pub at : ℕ → ℕ
+  pub below : (k : ℕ) → k < number → at k < n
+  pub inside : (k : ℕ) → k < number → scope (at k) ≡ true
+  -- no class twice
+  pub once : (k l : ℕ) → k < number → l < number → c (at k) ≡ c (at l) → k ≡ l
+  -- and each of them
+  pub every : (s : ℕ) → s < n → scope s ≡ true → (k : ℕ) × (k < number) × (c (at k) ≡ c s)
 
 -- "the number of different classes of its level among the people given to the steps of its scope"
 abbrev pub classCount : Job → Rule → Plan → ℕ
@@ -102,7 +116,7 @@ met j r π = leb (r .least) (classCount j r π) && leb (classCount j r π) (r .m
 
 -- "It is valid when each person is permitted the step and all rules are met"; document 004: authorized and eligible
 pub record Valid (j : Job) (may : May) (π : Plan) : Type 0 where
-  pub within : (s : ℕ) → s < j .steps → π s < j .people
+  pub within : OfPeople j π
   pub authorised : (s : ℕ) → s < j .steps → may s (π s) ≡ true
   pub eligible : (i : ℕ) → i < j .rules → Met j (j .rule i) π
 

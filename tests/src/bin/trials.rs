@@ -1,33 +1,11 @@
 //! Writes the input and the expected output of the crate `trials`, or checks that they are up to date.
 
 use model::reader::{read, text};
-use sheet_tests::trials;
-use std::path::PathBuf;
+use sheet_tests::{files, trials};
+use std::env;
 use std::process::ExitCode;
-use std::{env, fs};
 
 const USAGE: &str = "usage: trials write | check";
-
-fn path(file: &str) -> PathBuf {
-    let here = PathBuf::from(env!("CARGO_MANIFEST_DIR"));
-    here.join("../crates/trials").join(file)
-}
-
-fn write(file: &str, bytes: &[u8]) -> bool {
-    let written = fs::write(path(file), bytes);
-    if let Err(error) = &written {
-        eprintln!("{file}: {error}");
-    }
-    written.is_ok()
-}
-
-fn check(file: &str, bytes: &[u8]) -> bool {
-    let same = fs::read(path(file)).is_ok_and(|found| found == bytes);
-    if !same {
-        eprintln!("crates/trials/{file} is not what the model gives: run 'trials write'");
-    }
-    same
-}
 
 /// Trials whose stated answer is not the model's.
 fn disagreements() -> usize {
@@ -43,19 +21,15 @@ fn disagreements() -> usize {
 }
 
 fn main() -> ExitCode {
-    let (input, output) = trials::files();
-    let does = match env::args().nth(1).as_deref() {
-        Some("write") => write,
-        Some("check") => check,
-        _ => {
-            eprintln!("{USAGE}");
-            return ExitCode::from(2);
-        }
+    let Some(action) = files::action(env::args().nth(1).as_ref()) else {
+        eprintln!("{USAGE}");
+        return ExitCode::from(2);
     };
     if disagreements() > 0 {
         return ExitCode::FAILURE;
     }
-    if !does("stdin", &input) | !does("stdout", output.as_bytes()) {
+    let (input, output) = trials::files();
+    if !action("crates/trials/stdin", &input) | !action("crates/trials/stdout", output.as_bytes()) {
         return ExitCode::FAILURE;
     }
     println!("{} trials, {} bytes of input", trials::all().len(), input.len());

@@ -4,7 +4,7 @@ mod chains;
 mod contents;
 mod damage;
 mod file;
-mod papers;
+pub mod papers;
 mod points;
 mod together;
 

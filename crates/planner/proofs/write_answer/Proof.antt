@@ -1,7 +1,15 @@
--- `planner::write_answer` is safe: a refusal of the reader has a number, and a readable sheet has few steps. Assumes nothing.
+-- `planner::write_answer` is safe: a refusal of the reader has a number, a readable sheet few steps and rules, and a plan that was found people of
+-- the sheet. Assumes nothing.
+use native.Mathlib.Omega.{arith}
 use borrow.Author.Needs.{needs}
+use borrow.Author.Tests.{not-false}
 use Rattle.answer.proofs.Returnable.{read-returnable}
-use Rattle.planner.proofs.Steps.{steps-few}
+use Rattle.answer.proofs.WasRead.{was-readable}
+use Rattle.sheet.specs.Readable.{ReadableJob}
+use Rattle.workflow.specs.Problem.{OfPeople}
+use Rattle.instance.specs.Instance.{instanceOf}
+use Rattle.pattern.specs.Tables.{planIn}
+use Rattle.crew.proofs.Found.{found-within}
 use Rattle.planner.proofs.write_answer.Statement.{statement}
 use Rattle.planner.proofs.write_answer.Tie as tie
 
@@ -23,11 +31,19 @@ write-refusal-requires c κs = search needs
 returns : tie.Need-returns
 returns c = search needs
 
-slice-aggregate-crew : tie.Need-slice-aggregate-crew
-slice-aggregate-crew c = search needs
+-- the job that was read
+readable : (c : tie.After-job) → let g = c .before .before .reading .given .0 in
+    ReadableJob (g .0) (g .1 .0) (g .1 .1 .0) (c .before .before .before .before .read-sheet .result .job)
+readable c =
+    let g = c .before .before in
+    let r = g .before .before .read-sheet in
+    was-readable _ (r .result) (r .ensures) (g .reading .given .0 .0) (g .reading .given .0 .1 .0) (g .reading .given .0 .1 .1 .0) (g .reading .given .1)
 
-crew-requires : tie.Need-crew-requires
-crew-requires c κs = search needs
+plan-job-requires : tie.Need-plan-job-requires
+plan-job-requires c κs = readable c
+
+returned-requires : tie.Need-returned-requires
+returned-requires c κs = search needs
 
 write-refusal-requires-2 : tie.Need-write-refusal-requires-2
 write-refusal-requires-2 c κs = search needs
@@ -47,15 +63,31 @@ write-refusal-requires-3 c κs = search needs
 returns-3 : tie.Need-returns-3
 returns-3 c = search needs
 
+-- from the plan that is printed back to the branch in which it was found
+abbrev chosen : tie.After-plan2 → tie.Else1
+chosen c = c .before .before .before .before .before .before
+
+-- it gives each step one of the people
+within : (c : tie.Else1) → let p = c .before .before in let g = p .before .before .before .reading .given .0 in
+    OfPeople (instanceOf (g .0) (g .1 .0) (g .1 .1 .0) (p .before .before .before .before .before .read-sheet .result .job)) (planIn (p .plan-job .result .plan))
+within c = let r = c .before .before .plan-job in found-within _ _ (r .result .found) (r .result .plan) (r .ensures) (not-false _ (c .if1 .left))
+
 write-plan-requires : tie.Need-write-plan-requires
 write-plan-requires c κs =
-    let crewed = c .before .before .before .before .before .before .before in
-    let g = crewed .before .before .before .reading .given in
-    let r = crewed .before .before .before .before .before .read-sheet in
-    (search needs, steps-few _ (r .result) (r .ensures) (g .0 .0) (g .0 .1 .0) (g .0 .1 .1 .0) (g .1))
+    let e = chosen c in
+    let w = readable (e .before .before .before) in
+    (w .steps-most, search needs, λ s l. omega (arith, within e s l, w .people-most))
 
 write-spare-requires : tie.Need-write-spare-requires
 write-spare-requires c κs = search needs
+
+rule-counts-requires : tie.Need-rule-counts-requires
+rule-counts-requires c κs = let e = chosen (c .before .before .before .before) in (readable (e .before .before .before), search needs, within e)
+
+write-rules-requires : tie.Need-write-rules-requires
+write-rules-requires c κs =
+    let e = chosen (c .before .before .before .before .before .before) in
+    (readable (e .before .before .before) .rules-most, search needs)
 
 returns-4 : tie.Need-returns-4
 returns-4 c = search needs
@@ -70,8 +102,8 @@ write-answer-spec =
     number-requires
     write-refusal-requires
     returns
-    slice-aggregate-crew
-    crew-requires
+    plan-job-requires
+    returned-requires
     write-refusal-requires-2
     returns-2
     slice-aggregate-spare
@@ -80,4 +112,6 @@ write-answer-spec =
     returns-3
     write-plan-requires
     write-spare-requires
+    rule-counts-requires
+    write-rules-requires
     returns-4)

@@ -1,17 +1,16 @@
--- `planner::write_plan` is safe and ends: eight bytes a step are there. Assumes nothing.
-use borrow.Author.Needs.{needs}
+-- `planner::write_plan` is safe and ends: each step has a tag and a person. Assumes nothing.
+use Prim.Native.Nat.{_-_, _≤_, _<_}
 use native.Mathlib.Omega.{arith}
-use mathlib.Core.Path.{_≡_, refl}
-use Prim.Native.Nat.{_≤_, _-_}
-use lib.ListN.{length}
+use borrow.Author.Needs.{needs}
+use Rattle.pattern.specs.Tables.{planIn}
 use Rattle.planner.proofs.write_plan.Statement.{statement}
 use Rattle.planner.proofs.write_plan.Tie as tie
 
 abbrev Inv-loop : tie.InvT-loop
-Inv-loop bytes steps s₀ t6 s = (s ≤ steps) × (length t6 ≡ 1)
+Inv-loop steps plan step-tag person-tag s₀ s = s ≤ steps
 
 abbrev μ-loop : tie.MeasureT-loop
-μ-loop bytes steps s₀ t6 s = steps - s
+μ-loop steps plan step-tag person-tag s₀ s = steps - s
 
 slice-aggregate-text : tie.Need-slice-aggregate-text Inv-loop μ-loop
 slice-aggregate-text c = search needs
@@ -29,34 +28,36 @@ text-requires-2 : tie.Need-text-requires-2 Inv-loop μ-loop
 text-requires-2 c κs = search needs
 
 loop-holds : tie.Need-loop-holds Inv-loop μ-loop
-loop-holds c = (omega arith, refl)
+loop-holds c = omega arith
 
-mul-long-at : tie.Need-mul-long-at Inv-loop μ-loop
-mul-long-at c = search needs
+mul-write-step : tie.Need-mul-write-step Inv-loop μ-loop
+mul-write-step c = search needs
 
-long-at-requires : tie.Need-long-at-requires Inv-loop μ-loop
-long-at-requires c κs = search needs
+array-read-write-step : tie.Need-array-read-write-step Inv-loop μ-loop
+array-read-write-step c = search needs
 
-print-decimal-requires : tie.Need-print-decimal-requires Inv-loop μ-loop
-print-decimal-requires c κs = search needs
+element-copy-out-write-step : tie.Need-element-copy-out-write-step Inv-loop μ-loop
+element-copy-out-write-step c = search needs
 
-mul-long-at-2 : tie.Need-mul-long-at-2 Inv-loop μ-loop
-mul-long-at-2 c = search needs
+-- from the loop back to the beginning
+abbrev start : tie.At-loop Inv-loop μ-loop → tie.Start Inv-loop μ-loop
+start c = c .before .before .before .before .before .before .before .before
 
-add-long-at : tie.Need-add-long-at Inv-loop μ-loop
-add-long-at c = search needs
+-- the person of a step
+person : (c : tie.After-write-step-arg Inv-loop μ-loop) → let l = c .before .before in planIn (start l .args .plan .now) (l .loop .s) < 64
+person c = let l = c .before .before in start l .pre .2 (l .loop .s) (c .before .loop-test .taken)
 
-long-at-requires-2 : tie.Need-long-at-requires-2 Inv-loop μ-loop
-long-at-requires-2 c κs = search needs
+cast-write-step : tie.Need-cast-write-step Inv-loop μ-loop
+cast-write-step c = omega (arith, person c)
 
-figure-requires-2 : tie.Need-figure-requires-2 Inv-loop μ-loop
-figure-requires-2 c κs = search needs
+mul-write-step-2 : tie.Need-mul-write-step-2 Inv-loop μ-loop
+mul-write-step-2 c = omega (arith, person c)
 
-slice-aggregate-text-3 : tie.Need-slice-aggregate-text-3 Inv-loop μ-loop
-slice-aggregate-text-3 c = search needs
+array-read-write-step-2 : tie.Need-array-read-write-step-2 Inv-loop μ-loop
+array-read-write-step-2 c = person c
 
-text-requires-3 : tie.Need-text-requires-3 Inv-loop μ-loop
-text-requires-3 c κs = search needs
+write-step-requires : tie.Need-write-step-requires Inv-loop μ-loop
+write-step-requires c κs = search needs
 
 add-s : tie.Need-add-s Inv-loop μ-loop
 add-s c = search needs
@@ -65,7 +66,7 @@ loop-less : tie.Need-loop-less Inv-loop μ-loop
 loop-less c = search needs
 
 loop-again : tie.Need-loop-again Inv-loop μ-loop
-loop-again c = (omega arith, refl)
+loop-again c = omega arith
 
 returns : tie.Need-returns Inv-loop μ-loop
 returns c = search needs
@@ -73,25 +74,4 @@ returns c = search needs
 pub write-plan-spec : {M : Type 1} → statement M
 write-plan-spec =
     tie.close
-    (tie.spec
-    Inv-loop
-    μ-loop
-    slice-aggregate-text
-    text-requires
-    figure-requires
-    slice-aggregate-text-2
-    text-requires-2
-    loop-holds
-    mul-long-at
-    long-at-requires
-    print-decimal-requires
-    mul-long-at-2
-    add-long-at
-    long-at-requires-2
-    figure-requires-2
-    slice-aggregate-text-3
-    text-requires-3
-    add-s
-    loop-less
-    loop-again
-    returns)
+    (tie.spec Inv-loop μ-loop slice-aggregate-text text-requires figure-requires slice-aggregate-text-2 text-requires-2 loop-holds mul-write-step array-read-write-step element-copy-out-write-step cast-write-step mul-write-step-2 array-read-write-step-2 write-step-requires add-s loop-less loop-again returns)

@@ -2,7 +2,7 @@
 use Prim.Native.Nat.{_<_}
 use native.Mathlib.Omega.{arith}
 use borrow.Author.Needs.{needs}
-use Rattle.narrow.specs.Domains.{ForClasses}
+use Rattle.eligible.specs.Classes.{ForClasses}
 use Rattle.narrow.proofs.Parting.{Parting, parting-none, parting-skip, parting-take}
 use Rattle.narrow.proofs.apart.apart.Statement.{statement}
 use Rattle.narrow.proofs.apart.apart.Tie as tie

@@ -1,7 +1,7 @@
 -- `narrow::apart::reach` meets its contract: whoever shares a class with somebody passed is found, and the people left fall. Assumes nothing.
 use borrow.Author.Needs.{needs}
 use Rattle.bits.proofs.Masks.{taken-part-less}
-use Rattle.narrow.specs.Domains.{ForClasses}
+use Rattle.eligible.specs.Classes.{ForClasses}
 use Rattle.narrow.specs.Fixing.{Reaching}
 use Rattle.narrow.proofs.Reach.{reaching-none, reaching-more, reaching-all}
 use Rattle.narrow.proofs.apart.reach.Statement.{statement}

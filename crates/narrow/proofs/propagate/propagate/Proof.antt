@@ -6,7 +6,7 @@ use Rattle.pattern.specs.Tables.{jobIn}
 use Rattle.pattern.proofs.Given.{scope-small}
 use Rattle.narrow.specs.Domains.{Narrowed}
 use Rattle.narrow.proofs.Passing.{narrowed-none, narrowed-more, narrowed-lost}
-use Rattle.narrow.proofs.Settling.{level-of, rule-at}
+use Rattle.eligible.proofs.Names.{level-of, rule-at}
 use Rattle.narrow.proofs.propagate.propagate.Statement.{statement}
 use Rattle.narrow.proofs.propagate.propagate.Tie as tie
 

@@ -1,6 +1,6 @@
 -- `narrow::revise::allowed` meets its contract. Assumes nothing.
 use mathlib.Core.Logic.{inl, inr}
-use mathlib.Core.Path.{sym, _∙_}
+use mathlib.Core.Path.{_∙_}
 use native.Mathlib.Omega.{arith}
 use borrow.Author.Needs.{needs}
 use Rattle.narrow.specs.Narrowing.{Common}
@@ -10,9 +10,6 @@ use Rattle.narrow.proofs.revise.allowed.Tie as tie
 
 size-requires : tie.Need-size-requires
 size-requires c κs = search needs
-
-size-requires-2 : tie.Need-size-requires-2
-size-requires-2 c κs = search needs
 
 most-requires : tie.Need-most-requires
 most-requires c κs = search needs
@@ -27,7 +24,7 @@ returns : tie.Need-returns
 returns c =
     let l = c .before in
     let m = l .before .before .before in
-    let a = m .before .before .before .args in
+    let a = m .before .before .args in
     λ people g. inl (
       omega (arith, m .most .ensures, l .before .if2 .taken),
       at-level (a .crowd .now) (λ people c′. Common people c′ (a .forced .wide) (a .dom .now) 0 (c .common .result)) (l .level .ensures .0) (c .common .ensures)
@@ -52,13 +49,12 @@ left-to-requires c κs = search needs
 returns-3 : tie.Need-returns-3
 returns-3 c =
     let m = c .before .before .before .before in
-    let groups = m .before .before .size .ensures .0 in
-    let wide = m .before .size2 .ensures .0 in
+    let wide = m .before .size .ensures .0 in
     λ people g. inr (inr (λ p l joins avoids.
-    c .left-to .ensures p l (λ e. joins (sym groups ∙ e ∙ m .most .ensures .0)) (λ e. avoids (omega (arith, groups, wide, e, c .before .least .ensures .0)))))
+    c .left-to .ensures p l (λ e. joins (e ∙ m .most .ensures .0)) (λ e. avoids (omega (arith, wide, e, c .before .least .ensures .0)))))
 
 pub allowed-spec : {M : Type 1} → statement M
 allowed-spec =
     tie.close
-    (tie.spec size-requires size-requires-2 most-requires level-requires common-requires returns add-if4 upper-requires returns-2
+    (tie.spec size-requires most-requires level-requires common-requires returns add-if4 upper-requires returns-2
     least-requires left-to-requires returns-3)

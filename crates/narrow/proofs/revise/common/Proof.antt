@@ -2,7 +2,7 @@
 use Prim.Native.Nat.{_<_}
 use native.Mathlib.Omega.{arith}
 use borrow.Author.Needs.{needs}
-use Rattle.narrow.specs.Domains.{ForClasses}
+use Rattle.eligible.specs.Classes.{ForClasses}
 use Rattle.narrow.proofs.Reach.{CommonSoFar, common-none, common-more, common-all}
 use Rattle.narrow.proofs.revise.common.Statement.{statement}
 use Rattle.narrow.proofs.revise.common.Tie as tie

@@ -1,7 +1,7 @@
 -- `narrow::revise::revise` meets its contract, by what the domains settle of the count. Assumes nothing.
 use native.Mathlib.Omega.{arith}
 use borrow.Author.Needs.{needs}
-use Rattle.narrow.specs.Domains.{ForJobs}
+use Rattle.eligible.specs.Classes.{ForJobs}
 use Rattle.narrow.proofs.Restricting.{changed-small}
 use Rattle.narrow.proofs.Ruling.{SettledRule, settled-rule, revised-lost, revised}
 use Rattle.narrow.proofs.revise.revise.Statement.{statement}
@@ -18,10 +18,10 @@ fixed-requires c κs = search needs
 
 -- what is settled, in every job that can have the rule
 state : (c : tie.After-fixed) → let a = c .before .before .before .before .args in let f = c .fixed .result in
-    ForJobs (a .crowd .now) (a .r) (λ j. SettledRule j (a .r) (a .dom .now) (f .used) (f .heads) (f .wide))
+    ForJobs (a .crowd .now) (a .r) (λ j. SettledRule j (a .r) (a .dom .now) (f .used) (f .count) (f .wide))
 state c =
     let s = c .before .before .before in
-    settled-rule (s .level .ensures .0) (c .before .before .scope .ensures) (s .before .pre .2) (c .fixed .ensures .1)
+    settled-rule (s .level .ensures .0) (c .before .before .scope .ensures) (s .before .pre .2) (c .fixed .ensures .2)
 
 hopeless-requires : tie.Need-hopeless-requires
 hopeless-requires c κs = search needs

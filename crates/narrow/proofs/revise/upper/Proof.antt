@@ -5,7 +5,7 @@ use native.Mathlib.Omega.{arith}
 use borrow.Author.Needs.{needs}
 use lib.Count.{ones}
 use Rattle.bits.proofs.Masks.{all-has}
-use Rattle.narrow.specs.Domains.{ForClasses}
+use Rattle.eligible.specs.Classes.{ForClasses}
 use Rattle.narrow.specs.Parting.{Apart}
 use Rattle.narrow.proofs.Settling.{at-level}
 use Rattle.pattern.specs.Rule.{levelIn}
@@ -20,9 +20,6 @@ apart-requires c κs = search needs
 
 size-requires : tie.Need-size-requires
 size-requires c κs = search needs
-
-size-requires-2 : tie.Need-size-requires-2
-size-requires-2 c κs = search needs
 
 add-total : tie.Need-add-total
 add-total c = search needs
@@ -40,9 +37,9 @@ parts c =
     (p .before .level .ensures .0) (p .apart .ensures)
 
 -- the classes that there are at least
-total : (c : tie.After-most) → let p = c .before .before .before in
-    c .before .before .size .result + c .before .size2 .result ≡ ones (p .before .before .args .forced .heads) + ones (p .apart .result .heads)
-total c = omega (arith, c .before .before .size .ensures, c .before .size2 .ensures)
+total : (c : tie.After-most) → let p = c .before .before .before in let groups = p .before .before .args .forced .count in
+    groups + c .before .before .size .result ≡ groups + ones (p .apart .result .heads)
+total c = omega (arith, c .before .before .size .ensures)
 
 returns : tie.Need-returns
 returns c =
@@ -63,4 +60,4 @@ returns-3 c =
     }
 
 pub upper-spec : {M : Type 1} → statement M
-upper-spec = tie.close (tie.spec level-requires apart-requires size-requires size-requires-2 add-total most-requires returns returns-2 returns-3)
+upper-spec = tie.close (tie.spec level-requires apart-requires size-requires add-total most-requires returns returns-2 returns-3)

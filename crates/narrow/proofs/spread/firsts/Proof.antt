@@ -1,7 +1,7 @@
 -- `narrow::spread::firsts` meets its contract: somebody of the class of everybody passed is found, and the people left fall. Assumes nothing.
 use borrow.Author.Needs.{needs}
 use Rattle.bits.proofs.Masks.{taken-part-less}
-use Rattle.narrow.specs.Domains.{ForClasses}
+use Rattle.eligible.specs.Classes.{ForClasses}
 use Rattle.narrow.specs.Spreading.{Firsts}
 use Rattle.narrow.proofs.Spreading.{firsts-none, firsts-more, firsts-all}
 use Rattle.narrow.proofs.spread.firsts.Statement.{statement}
