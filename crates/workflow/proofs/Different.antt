@@ -1,15 +1,16 @@
 -- The number of different classes over a scope is what it says. Assumes nothing.
 use mathlib.Core.Bool.{Bool, true, false, cond, _&&_}
 use mathlib.Core.Path.{_≡_, refl, sym, subst, ap, _∙_}
-use Prim.Native.Nat.{ℕ, zero, suc, _<_}
+use Prim.Native.Nat.{ℕ, zero, suc, _≤_, _<_}
 use native.Mathlib.Omega.{arith}
-use lib.Dec.{eqb}
-use borrow.Author.Tests.{eqb-true, eq-eqb, ne-eqb}
-use Rattle.bits.specs.Below.{any}
-use Rattle.bits.proofs.Below.{by-cases, true-false, below-suc, and-left, and-right}
-use Rattle.bits.proofs.Counting.{any-at, any-none, count-true, count-false, count-zero}
+use lib.Dec.{eqb, ltb}
+use borrow.Author.Tests.{eqb-true, eq-eqb, ne-eqb, ltb-true, ltb-false}
+use Rattle.bits.specs.Below.{any, count, first}
+use Rattle.bits.proofs.Below.{by-cases, true-false, below-suc, and-left, and-right, first-has, first-none}
+use Rattle.bits.proofs.Counting.{any-at, any-none, count-true, count-false, count-zero, count-le}
 use Rattle.workflow.specs.Problem.{opens, distinct, DifferentClasses}
 use Rattle.workflow.proofs.Counts.{opens-scope, opens-new, opens-of}
+use Rattle.workflow.proofs.Occurs.{occurs, distinct-occurs}
 
 module _ {scope : ℕ → Bool} {c : ℕ → ℕ} {n m : ℕ} (w : DifferentClasses n scope c m) where
   -- a step whose class is had before, or that is not in the scope
@@ -94,3 +95,41 @@ distinct-different (suc n) scope c =
     (different-new (distinct-different n scope c) (opens-scope scope c n e) (opens-new scope c n e)))
     (λ e. subst (DifferentClasses (suc n) scope c) (sym (count-false n (opens scope c) e))
     (different-old (distinct-different n scope c) (had-before scope c n e)))
+
+-- ---- and no other number is
+
+count-all : (n : ℕ) (f : ℕ → Bool) → ((k : ℕ) → k < n → f k ≡ true) → count n f ≡ n
+count-all zero f h = count-zero f
+count-all (suc n) f h = count-true n f (h n (omega arith)) ∙ ap suc (count-all n f (λ k l. h k (omega arith)))
+
+-- where each number below a has one of its own below b, b is not less
+into : (a b : ℕ) (f : ℕ → ℕ) → ((k : ℕ) → k < a → f k < b) → ((k l : ℕ) → k < a → l < a → f k ≡ f l → k ≡ l) → a ≤ b
+unfolding distinct
+into a b f within once =
+    let each : count a (opens (λ k. true) f) ≡ a
+    = count-all a (opens (λ k. true) f) (λ k l. opens-of (λ k. true) f k refl (λ t m h e. absurd (omega (arith, once t k (omega arith) l e)))) in
+    omega (arith, each, distinct-occurs (λ k. true) f a b (λ s l h. within s l), count-le b (occurs a (λ k. true) f))
+
+module _ {n : ℕ} {scope : ℕ → Bool} {c : ℕ → ℕ} {a b : ℕ} (v : DifferentClasses n scope c a) (w : DifferentClasses n scope c b) where
+  -- where w has the class that v has at k
+  there : ℕ → ℕ
+  there k = first b (λ m. eqb (c (w .at m)) (c (v .at k)))
+
+  there-below : (k : ℕ) → k < a → there k < b
+  unfolding there
+  there-below k l =
+      let o = w .every (v .at k) (v .below k l) (v .inside k l) in
+      let place = first b (λ m. eqb (c (w .at m)) (c (v .at k))) in
+      by-cases (ltb (o .0) place)
+      (λ t. true-false (eq-eqb _ _ (o .2)) (first-none b (λ m. eqb (c (w .at m)) (c (v .at k))) (o .0) (ltb-true (o .0) place t)))
+      (λ t. omega (arith, ltb-false (o .0) place t, o .1))
+
+  there-class : (k : ℕ) → k < a → c (w .at (there k)) ≡ c (v .at k)
+  unfolding there
+  there-class k l = eqb-true _ _ (first-has b (λ m. eqb (c (w .at m)) (c (v .at k))) (there-below k l))
+
+  not-more : a ≤ b
+  not-more = into a b there there-below (λ k l x y e. v .once k l x y (sym (there-class k x) ∙ ap (λ (m : ℕ). c (w .at m)) e ∙ there-class l y))
+
+pub different-unique : {n : ℕ} {scope : ℕ → Bool} {c : ℕ → ℕ} {a b : ℕ} → DifferentClasses n scope c a → DifferentClasses n scope c b → a ≡ b
+different-unique v w = omega (arith, not-more v w, not-more w v)

@@ -1,6 +1,6 @@
 pub mod Counts
-pub mod Different
 pub mod Occurs
+pub mod Different
 pub mod Valid
 pub mod Rules
 pub mod Nested

@@ -21,7 +21,7 @@ size-requires c κs = search needs
 can-be-met-requires : tie.Need-can-be-met-requires
 can-be-met-requires c κs = search needs
 
--- no rule is met with a count that can rise so far
+-- where the test says no, the rule cannot be met with this count and so many more
 cannot : (r count : ℕ) {more more′ : ℕ} → more ≡ more′ → (a : Bool) → Says a (CanBeMet (unpacked r) count more) → not a ≡ true
     → CanBeMet (unpacked r) count more′ → ⊥
 cannot r count e a h t w = says-false a _ h (not-true a t) (subst (CanBeMet (unpacked r) count) (sym e) w)
