@@ -1,19 +1,23 @@
-# make plan: the planning program on sheet W, or on SHEET=file. make test: the gate.
+# make plan: the planning program on sheet W, or on SHEET=file; make try: the one that tries every plan. make test: the gate.
 # Needed: the Rattle toolchain (rt), gcc and cargo.
 PREFIX ?= /usr/local
 SHEET ?= crates/planner/stdin
 LIB = target/staticlib/libfulmarinvar.a
 PATTERNS = target/patterns/libfulmarinvar.a
 PLANNER = target/bin/planner
+BY_TRIAL = target/bin/by_trial
 PROVED := $(shell find crates -name '*.rt' -o -name '*.antt') crates.txt
 
 # need TOOL: says what is missing
 need = command -v $(1) > /dev/null || { echo "$(1) is missing: it has to be on the PATH" >&2; exit 1; }
 
-.PHONY: plan test check bench record sign beside patterns climb soak install uninstall
+.PHONY: plan try test check bench record sign trial beside patterns climb soak install uninstall
 
 plan: $(PLANNER)
 	@$(PLANNER) < $(SHEET)
+
+try: $(BY_TRIAL)
+	@$(BY_TRIAL) < $(SHEET)
 
 test:
 	@bash .ci/run
@@ -22,10 +26,10 @@ test:
 check:
 	@rt check
 
-$(PLANNER): $(PROVED)
+$(PLANNER) $(BY_TRIAL): target/bin/%: $(PROVED)
 	@$(call need,rt)
-	@echo "proving and building the planner: some minutes the first time" >&2
-	@rt check planner >&2
+	@echo "proving and building $*: some minutes the first time" >&2
+	@rt check $* >&2
 	@touch $@
 
 $(LIB): $(PROVED)
@@ -37,12 +41,13 @@ $(LIB): $(PROVED)
 BENCH = cargo run --release --offline --quiet --manifest-path bench/Cargo.toml --
 
 # Times of crews and spare counts beside a hand-written search, then beside MiniSat, clingo and SAT4J, as far as they are
-# there, and of jobs under work; the tables, target/measured.csv, target/peers.csv and target/sign.csv.
+# there, of jobs under work, and of crews by trial; the tables, and target/measured.csv, peers.csv, sign.csv and trial.csv.
 bench: $(LIB)
 	@$(call need,cargo)
 	@$(BENCH) measure target/measured.csv
 	@$(BENCH) peers target/peers.csv
 	@$(BENCH) sign target/sign.csv
+	@$(BENCH) trial target/trial.csv
 
 # The same into bench/recorded, and what docs/BENCHMARKS.md shows of it.
 record: $(LIB)
@@ -52,6 +57,7 @@ record: $(LIB)
 	@$(BENCH) measure bench/recorded/measured.csv
 	@$(BENCH) peers bench/recorded/peers.csv
 	@$(BENCH) sign bench/recorded/sign.csv
+	@$(BENCH) trial bench/recorded/trial.csv
 	@python3 bench/plot --into docs/BENCHMARKS.md
 
 # Jobs under work alone: openings beside the crew call, signings beside the question whether a plan exists. The times go to
@@ -59,6 +65,11 @@ record: $(LIB)
 sign: $(LIB)
 	@$(call need,cargo)
 	@$(BENCH) sign $(or $(OUT),target/sign.csv)
+
+# Crews by trial alone, beside the crew call and beside a hand-written brute force. The times go to OUT.
+trial: $(LIB)
+	@$(call need,cargo)
+	@$(BENCH) trial $(or $(OUT),target/trial.csv)
 
 # Crews and spare counts of the library beside those of another archive of it, OTHER, on practice and hard sheets: the
 # answers have to be the same. The times go to OUT.
@@ -85,13 +96,15 @@ soak: $(LIB)
 	@$(call need,cargo)
 	@cargo run --release --offline --manifest-path tests/Cargo.toml --features library --bin $(or $(RUN),compare) -- soak $(SEED)
 
-install: $(LIB) $(PLANNER)
+install: $(LIB) $(PLANNER) $(BY_TRIAL)
 	install -D -m 644 include/fulmarinvar.h $(DESTDIR)$(PREFIX)/include/fulmarinvar.h
 	install -D -m 644 $(LIB) $(DESTDIR)$(PREFIX)/lib/libfulmarinvar.a
 	install -D -m 755 $(PLANNER) $(DESTDIR)$(PREFIX)/bin/fulmarinvar-planner
+	install -D -m 755 $(BY_TRIAL) $(DESTDIR)$(PREFIX)/bin/fulmarinvar-by-trial
 	install -d $(DESTDIR)$(PREFIX)/lib/pkgconfig
 	sed 's|@PREFIX@|$(PREFIX)|' include/fulmarinvar.pc.in > $(DESTDIR)$(PREFIX)/lib/pkgconfig/fulmarinvar.pc
 
 uninstall:
 	rm -f $(DESTDIR)$(PREFIX)/include/fulmarinvar.h $(DESTDIR)$(PREFIX)/lib/libfulmarinvar.a
-	rm -f $(DESTDIR)$(PREFIX)/bin/fulmarinvar-planner $(DESTDIR)$(PREFIX)/lib/pkgconfig/fulmarinvar.pc
+	rm -f $(DESTDIR)$(PREFIX)/bin/fulmarinvar-planner $(DESTDIR)$(PREFIX)/bin/fulmarinvar-by-trial
+	rm -f $(DESTDIR)$(PREFIX)/lib/pkgconfig/fulmarinvar.pc

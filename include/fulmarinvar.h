@@ -1,7 +1,7 @@
 /* Fulmarinvar: crews, spare counts and signings for job sheets.
  *
- * Two calls plan: each takes a sheet and an answer area and returns 0 or a refusal with a card. Three more open a job,
- * sign its steps as the work goes, and tell how many signings were refused. All memory is lent by the caller, who
+ * Three calls plan: each takes a sheet and an answer area and returns 0 or a refusal with a card. Three more open a
+ * job, sign its steps as the work goes, and tell how many signings were refused. All memory is lent by the caller, who
  * keeps the job between its calls. The library keeps nothing and allocates nothing: calls may run on several threads
  * at once, as long as no two of them are lent one answer area or one job. */
 #ifndef FULMARINVAR_H
@@ -78,6 +78,12 @@ enum fulmarinvar_refusal {
  *   bytes 8 * j + 4 to 8 * j + 7   the tag of the person who does it, low byte first
  * Bytes from 8 * steps on keep their values. Never refuses with 2. */
 uint32_t fulmarinvar_crew(const uint8_t *sheet, size_t sheet_len, uint8_t *answer, size_t answer_len);
+
+/* The same by trying every plan, one after the other: the number and the bytes are those of fulmarinvar_crew on every
+ * sheet and every answer area. For small sheets: its time grows as the number of people to the power of the number of
+ * steps. On a large sheet it does not end in any useful time: 64 people and 12 steps have 2^72 plans. A host that does
+ * not know how large its sheet is tests that first, or calls fulmarinvar_crew. */
+uint32_t fulmarinvar_crew_by_trial(const uint8_t *sheet, size_t sheet_len, uint8_t *answer, size_t answer_len);
 
 /* The spare count: the largest t, at most `cap`, such that a valid plan is left whichever t people or fewer stay away.
  * On 0:

@@ -1,15 +1,17 @@
 """Tables and plots from recorded files.
 
-usage: python3 bench/plot [--measured CSV] [--peers CSV] [--sign CSV] [--patterns CSV] [--walk CSV] [--plots DIR]
-                          [--into FILE]
+usage: python3 bench/plot [--measured CSV] [--peers CSV] [--sign CSV] [--trial CSV] [--patterns CSV] [--walk CSV]
+                          [--plots DIR] [--into FILE]
   --measured  from 'bench measure', bench/recorded/measured.csv unless given
   --peers     from 'bench peers', bench/recorded/peers.csv unless given
   --sign      from 'bench sign', bench/recorded/sign.csv unless given
+  --trial     from 'bench trial', bench/recorded/trial.csv unless given
   --patterns  from 'bench beside' with the library of bench/patterns, bench/recorded/patterns.csv unless given
   --walk      of an earlier build that counted its searches, bench/recorded/walk.csv unless given
   --plots     where the plots go, docs/plots unless given
   --into      a text that has a line '<!-- NAME -->' before and '<!-- end NAME -->' after the place of a table; without it
-              the tables are printed. The names are practice, others, sign, peers, slower, patterns, walk
+              the tables are printed. The names are practice, others, sign, trial, peers, slower, patterns,
+              walk
 A file that is missing is left out.
 """
 
@@ -32,6 +34,7 @@ def arguments():
     parser.add_argument("--measured", type=Path, default=ROOT / "bench/recorded/measured.csv")
     parser.add_argument("--peers", type=Path, default=ROOT / "bench/recorded/peers.csv")
     parser.add_argument("--sign", type=Path, default=ROOT / "bench/recorded/sign.csv")
+    parser.add_argument("--trial", type=Path, default=ROOT / "bench/recorded/trial.csv")
     parser.add_argument("--patterns", type=Path, default=ROOT / "bench/recorded/patterns.csv")
     parser.add_argument("--walk", type=Path, default=ROOT / "bench/recorded/walk.csv")
     parser.add_argument("--plots", type=Path, default=ROOT / "docs/plots")
@@ -46,7 +49,7 @@ def record(path):
     return None
 
 
-def made(measured, peers, sign, patterns, walk):
+def made(measured, peers, sign, trial, patterns, walk):
     """Tables by name and plots by file."""
     named, drawn = {}, {}
     if measured:
@@ -63,6 +66,8 @@ def made(measured, peers, sign, patterns, walk):
             drawn[f"against-{solver}.svg"] = plots.against_peer(peers, solver)
     if sign:
         named["sign"] = f"{sign.origin()}\n\n{tables.sign(sign)}"
+    if trial:
+        named["trial"] = f"{trial.origin()}\n\n{tables.trial(trial)}"
     if patterns:
         named["patterns"] = f"{patterns.origin()}\n\n{tables.patterns(patterns)}"
     if walk:
@@ -82,7 +87,7 @@ def put(text, name, table):
 
 def main():
     given = arguments()
-    named, drawn = made(*map(record, (given.measured, given.peers, given.sign, given.patterns, given.walk)))
+    named, drawn = made(*map(record, (given.measured, given.peers, given.sign, given.trial, given.patterns, given.walk)))
     given.plots.mkdir(parents=True, exist_ok=True)
     for file, svg in drawn.items():
         if svg:

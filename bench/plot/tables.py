@@ -209,3 +209,25 @@ def sign(record):
             *signings(rows, "granted_ns"), *signings(rows, "refused_ns"), time(median(whole)), time(max(whole)),
         ])
     return table([*heading, "whole job median", "worst"], lines)
+
+
+def trial(record):
+    """The crew by trial for each number of steps: plans tried, times, ratios to the crew call and to the brute force by hand."""
+    heading = ["steps", "plans", "plan", "sheets", "tried: median", "most", "by trial median", "worst", "crew median"]
+    for name in ("crew", "hand"):
+        heading += [f"ratio to {name}: median", "p90", "worst"]
+    lines = []
+    for steps in dict.fromkeys(row["steps"] for row in record.rows):
+        for plan, word in (("yes", "a plan"), ("no", "none")):
+            rows = record.of(steps=steps, plan=plan)
+            if not rows:
+                continue
+            every = int(rows[0]["people"]) ** int(steps)
+            tried, times, crew = numbers(rows, "tried"), column(rows, "by_trial_ns"), column(rows, "crew_ns")
+            speed = [plans / one for plans, one in zip(tried, times)]
+            lines.append([
+                steps, f"{every:,}", word, str(len(rows)), count(median(tried)), count(max(tried)),
+                time(median(times)), time(max(times)), time(median(crew)), *ratios(list(zip(times, crew))),
+                *ratios(list(zip(times, column(rows, "hand_ns")))), digits(median(speed)),
+            ])
+    return table([*heading, "plans tried a second, millions"], lines)

@@ -17,7 +17,8 @@ mod other {
         fn other_spare(sheet: *const u8, sheet_len: usize, answer: *mut u8, answer_len: usize, cap: u32) -> u32;
     }
 
-    pub const BUILD: Option<Build> = Some(Build { crew: other_crew, spare: other_spare });
+    // What it is set beside is crews and spare counts, also where it is older than the crew by trial.
+    pub const BUILD: Option<Build> = Some(Build { crew: other_crew, crew_by_trial: None, spare: other_spare });
 }
 
 #[cfg(not(other))]
@@ -45,7 +46,8 @@ mod tests {
     fn every_build_answers_w() {
         let sheet = sheet_w().bytes;
         for build in [Which::This, Which::Other].into_iter().filter_map(linked) {
-            for call in [Call::Crew, Call::Spare { cap: 2 }] {
+            let by_trial = build.crew_by_trial.map(|_| Call::CrewByTrial);
+            for call in [Call::Crew, Call::Spare { cap: 2 }].into_iter().chain(by_trial) {
                 let mut area = [9; MOST_CREW_BYTES];
                 let wanted = answer(call, &sheet, &area).expect("a small job");
                 assert_eq!((build.run(call, &sheet, &mut area), area.to_vec()), (wanted.number, wanted.area));

@@ -19,6 +19,7 @@ mod randoms;
 mod record;
 mod sign;
 mod table;
+mod trial;
 mod worker;
 
 use std::env;
@@ -51,6 +52,7 @@ fn run(mut args: Vec<String>) -> io::Result<End> {
         "climb" => climb::order(args).map_or(Ok(End::Misused), |order| climb::run(&order).map(|()| End::Done)),
         "peers" => peers::order(args).map_or(Ok(End::Misused), |order| peers::run(&order).map(differences)),
         "sign" => sign::order(args).map_or(Ok(End::Misused), |order| sign::run(&order).map(differences)),
+        "trial" => trial::order(args).map_or(Ok(End::Misused), |order| trial::run(&order).map(differences)),
         worker::COMMAND => worker::serve().map(|()| End::Done),
         _ => Ok(End::Misused),
     }
@@ -64,7 +66,7 @@ fn main() -> ExitCode {
             ExitCode::FAILURE
         }
         Ok(End::Misused) => {
-            let usages = [compare::USAGE, peers::USAGE, beside::USAGE, sign::USAGE, climb::USAGE];
+            let usages = [compare::USAGE, peers::USAGE, beside::USAGE, sign::USAGE, trial::USAGE, climb::USAGE];
             eprintln!("usage: {}", usages.join("\n\n"));
             ExitCode::from(2)
         }

@@ -64,7 +64,7 @@ pub fn people_of(job: &Job, crew: &[u8]) -> Option<Vec<usize>> {
     crew.chunks(STEP_BYTES).map(person).collect()
 }
 
-fn crew_of(job: &Job, plan: &Plan) -> Vec<u8> {
+pub fn crew_of(job: &Job, plan: &Plan) -> Vec<u8> {
     let pairs: Vec<_> = job.steps.iter().zip(plan).map(|(step, &person)| (step.tag, job.people[person].tag)).collect();
     crew_bytes(&pairs)
 }

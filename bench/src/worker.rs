@@ -18,6 +18,7 @@ pub const COMMAND: &str = "calls";
 /// The bytes for what is called, and for the build of which it is called.
 const CREW: u8 = 0;
 const SPARE: u8 = 1;
+const CREW_BY_TRIAL: u8 = 2;
 const THIS: u8 = 0;
 const OTHER: u8 = 1;
 
@@ -34,6 +35,7 @@ fn question(which: Which, call: Call, sheet: &[u8]) -> Vec<u8> {
     let build = if which == Which::This { THIS } else { OTHER };
     let (byte, cap) = match call {
         Call::Crew => (CREW, 0),
+        Call::CrewByTrial => (CREW_BY_TRIAL, 0),
         Call::Spare { cap } => (SPARE, cap),
     };
     [&[build, byte, cap as u8], &(sheet.len() as u16).to_le_bytes()[..], sheet].concat()
@@ -46,7 +48,11 @@ fn read_question(input: &mut impl Read) -> io::Result<(Which, Call, Vec<u8>)> {
     let mut sheet = vec![0; usize::from(u16::from_le_bytes([low, high])).min(MOST_BYTES)];
     input.read_exact(&mut sheet)?;
     let which = if build == THIS { Which::This } else { Which::Other };
-    let call = if byte == CREW { Call::Crew } else { Call::Spare { cap: cap.into() } };
+    let call = match byte {
+        CREW => Call::Crew,
+        CREW_BY_TRIAL => Call::CrewByTrial,
+        _ => Call::Spare { cap: cap.into() },
+    };
     Ok((which, call, sheet))
 }
 
@@ -156,7 +162,7 @@ mod tests {
     #[test]
     fn a_question_is_read_as_it_was_sent() {
         for which in [Which::This, Which::Other] {
-            for call in [Call::Crew, Call::Spare { cap: 0 }, Call::Spare { cap: 3 }] {
+            for call in [Call::Crew, Call::CrewByTrial, Call::Spare { cap: 0 }, Call::Spare { cap: 3 }] {
                 let sheet = sheet_w().bytes;
                 let sent = question(which, call, &sheet);
                 assert_eq!(read_question(&mut &sent[..]).unwrap(), (which, call, sheet));

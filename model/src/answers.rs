@@ -13,7 +13,22 @@ pub const MOST_CAP: u32 = 3;
 #[derive(Clone, Copy, Debug, PartialEq, Eq)]
 pub enum Call {
     Crew,
-    Spare { cap: u32 },
+    /// Another way to ask for the crew: it is answered alike.
+    CrewByTrial,
+    Spare {
+        cap: u32,
+    },
+}
+
+impl Call {
+    /// The word for it, whatever the cap.
+    pub fn name(self) -> &'static str {
+        match self {
+            Call::Crew => "crew",
+            Call::CrewByTrial => "crew by trial",
+            Call::Spare { .. } => "spare",
+        }
+    }
 }
 
 /// The returned number, and the whole area after the call.
@@ -39,7 +54,7 @@ pub fn spare_bytes(count: usize, away: &[u32]) -> Vec<u8> {
 /// How many bytes the call writes for the job.
 pub fn room(call: Call, job: &Job) -> usize {
     match call {
-        Call::Crew => STEP_BYTES * job.steps.len(),
+        Call::Crew | Call::CrewByTrial => STEP_BYTES * job.steps.len(),
         Call::Spare { .. } => SPARE_BYTES,
     }
 }
@@ -60,7 +75,7 @@ pub fn job(call: Call, sheet: &[u8], area: usize) -> Result<Job, Refusal> {
 fn planned(call: Call, job: &Job) -> Result<Vec<u8>, Refusal> {
     let tag = |person: &usize| job.people[*person].tag;
     match call {
-        Call::Crew => {
+        Call::Crew | Call::CrewByTrial => {
             let Some(plan) = first_plan(job, &[]) else {
                 return refuse(NO_PLAN, 0);
             };

@@ -153,6 +153,13 @@ pub fn plain_job(people: usize, steps: usize, rules: usize) -> Job {
     }
 }
 
+/// A plain job that only the last person is permitted.
+pub fn last_alone(people: usize, steps: usize) -> Job {
+    let mut job = plain_job(people, steps, 0);
+    job.people[..people - 1].iter_mut().for_each(|person| person.permitted = 0);
+    job
+}
+
 pub fn plain(people: usize, steps: usize, rules: usize) -> Draft {
     lay(&plain_job(people, steps, rules))
 }

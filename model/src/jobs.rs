@@ -4,7 +4,7 @@ use crate::builder::{lay, lay_at, person, rule, step, Draft};
 use crate::job::{
     has_limit, Job, Rule, AT_LEAST, AT_MOST, BY_PERSON, BY_SHOP, MOST_PEOPLE, MOST_RULES, MOST_STEPS, SAME,
 };
-use crate::plans::{is_met, Plan};
+use crate::plans::{is_met, plans_of, Plan, MOST_PLANS};
 use crate::random::Random;
 use std::collections::{HashMap, HashSet};
 use std::iter::repeat_with;
@@ -135,6 +135,61 @@ pub fn planned_job(random: &mut Random, people: usize, steps: usize, rules: usiz
     Job { rules, ..job }
 }
 
+/// Up to so many, often just so many.
+fn up_to(random: &mut Random, least: usize, most: usize) -> usize {
+    if random.once_in(2) {
+        return most;
+    }
+    random.within(least, most)
+}
+
+/// A job with a plan, few people and few steps, and up to so many rules.
+pub fn with_rules(random: &mut Random, most: usize) -> Job {
+    let (people, steps) = (random.within(1, 6), random.within(2, 6));
+    let rules = up_to(random, 1, most);
+    planned_job(random, people, steps, rules)
+}
+
+/// A job with few people and few steps, and up to 64 rules: the last is any, and all before it are met by every plan.
+pub fn last_rule_job(random: &mut Random) -> Job {
+    let (people, steps) = (random.within(1, 6), random.within(2, 4));
+    let all = (1 << steps) - 1;
+    let before = up_to(random, 1, MOST_RULES) - 1;
+    let mut rules: Vec<Rule> = (0..before).map(|_| rule(AT_MOST, any_level(random), steps as u8, all)).collect();
+    rules.push(random_rule(random, steps));
+    Job { rules, ..mixed_job(random, people, steps) }
+}
+
+/// Any number of steps, two or more, and up to as many people as leave all plans to be tried.
+fn tried_size(random: &mut Random) -> (usize, usize) {
+    let steps = random.within(2, MOST_STEPS);
+    let most = (1..=MOST_PEOPLE).rev().find(|&people| plans_of(people, steps) <= MOST_PLANS).expect("one plan can be");
+    (up_to(random, 1, most), steps)
+}
+
+/// A job of any size of which every plan can be tried, up to 64 rules among it.
+pub fn tried_job(random: &mut Random) -> Job {
+    let (people, steps) = tried_size(random);
+    if random.once_in(2) {
+        return mixed_job(random, people, steps);
+    }
+    let rules = size(random, 0, MOST_RULES);
+    planned_job(random, people, steps, rules)
+}
+
+/// The same where no plan but the last can be valid: one person does all steps, and some step is permitted to the last person
+/// alone, or to nobody.
+pub fn last_plan_job(random: &mut Random) -> Job {
+    let (people, steps) = tried_size(random);
+    let all = (1 << steps) - 1;
+    let kept = 1 << random.below(steps);
+    let mut job = mixed_job(random, people, steps);
+    job.people.iter_mut().for_each(|person| person.permitted &= !kept);
+    job.people[people - 1].permitted = if random.once_in(2) { all } else { all & !kept };
+    job.rules = vec![rule(AT_MOST, BY_PERSON, 1, all)];
+    job
+}
+
 /// The job's sheet, its cards in some order; now and then in that of the chains.
 pub fn laid(random: &mut Random, job: &Job) -> Draft {
     if random.once_in(4) {
@@ -147,15 +202,16 @@ pub fn laid(random: &mut Random, job: &Job) -> Draft {
 #[cfg(test)]
 mod tests {
     use super::*;
-    use crate::plans::{first_plan, is_small, spare};
+    use crate::plans::{all_plans, first_plan, is_small, spare};
     use crate::reader::read;
     use std::collections::BTreeSet;
 
     #[test]
     fn small_jobs_are_small_and_readable() {
         let mut random = Random::new(2);
-        for k in 0..1_000 {
-            let job = if k % 2 == 0 { small_job(&mut random) } else { lopsided_job(&mut random) };
+        let jobs = [small_job, lopsided_job, last_rule_job, tried_job, last_plan_job];
+        for draw in jobs.into_iter().cycle().take(2_500) {
+            let job = draw(&mut random);
             assert!(is_small(&job));
             assert_eq!(read(&laid(&mut random, &job).bytes), Ok(job));
         }
@@ -181,6 +237,28 @@ mod tests {
                 assert!(first_plan(&job, &[]).is_some());
             }
         }
+    }
+
+    #[test]
+    fn the_last_rule_alone_can_be_broken() {
+        let mut random = Random::new(3);
+        for _ in 0..200 {
+            let job = last_rule_job(&mut random);
+            let (_, before) = job.rules.split_last().expect("there is a rule");
+            let free = Job { rules: vec![], ..job.clone() };
+            assert!(all_plans(&free).iter().all(|plan| before.iter().all(|rule| is_met(&job, rule, plan))));
+        }
+    }
+
+    #[test]
+    fn no_plan_but_the_last_can_be_valid() {
+        let mut random = Random::new(5);
+        let jobs: Vec<Job> = (0..50).map(|_| last_plan_job(&mut random)).collect();
+        let last = |job: &Job| vec![job.people.len() - 1; job.steps.len()];
+        let (with, without): (Vec<_>, Vec<_>) =
+            jobs.iter().map(|job| (job, all_plans(job))).partition(|(_, plans)| !plans.is_empty());
+        assert!(with.iter().all(|(job, plans)| *plans == [last(job)]));
+        assert!(!with.is_empty() && !without.is_empty());
     }
 
     #[test]

@@ -1,5 +1,5 @@
-//! What the papers say, in Rust: a model of the card reader, a brute force for crews, spare counts and signings, the listing of
-//! the planning program, sheets built from jobs, and jobs by recipe or at random. Nothing here is taken from the library; its
+//! What the papers say, in Rust: a model of the card reader, a brute force for crews, spare counts and signings, the listings of
+//! the programs, sheets built from jobs, and jobs by recipe or at random. Nothing here is taken from the library; its
 //! calls are bound under the feature `library`.
 
 pub mod answers;
@@ -17,3 +17,4 @@ pub mod reader;
 pub mod recipe;
 pub mod refusal;
 pub mod signing;
+pub mod trial;

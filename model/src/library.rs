@@ -8,6 +8,7 @@ pub type Spare = unsafe extern "C" fn(*const u8, usize, *mut u8, usize, u32) -> 
 
 extern "C" {
     fn fulmarinvar_crew(sheet: *const u8, sheet_len: usize, answer: *mut u8, answer_len: usize) -> u32;
+    fn fulmarinvar_crew_by_trial(sheet: *const u8, sheet_len: usize, answer: *mut u8, answer_len: usize) -> u32;
     fn fulmarinvar_spare(sheet: *const u8, sheet_len: usize, answer: *mut u8, answer_len: usize, cap: u32) -> u32;
     fn fulmarinvar_open(job: *mut Work, sheet: *const u8, sheet_len: usize) -> u32;
     fn fulmarinvar_sign(job: *mut Work, step: u32, person: u32) -> u32;
@@ -18,19 +19,32 @@ extern "C" {
 #[derive(Clone, Copy)]
 pub struct Build {
     pub crew: Crew,
+    /// Nothing where the build may be older than this call.
+    pub crew_by_trial: Option<Crew>,
     pub spare: Spare,
 }
 
-pub const THIS: Build = Build { crew: fulmarinvar_crew, spare: fulmarinvar_spare };
+pub const THIS: Build =
+    Build { crew: fulmarinvar_crew, crew_by_trial: Some(fulmarinvar_crew_by_trial), spare: fulmarinvar_spare };
+
+/// A crew by one of the calls for it.
+fn crew(call: Crew, sheet: &[u8], answer: &mut [u8]) -> u32 {
+    // Slices are real areas, and a shared one does not overlap with a lent one.
+    unsafe { call(sheet.as_ptr(), sheet.len(), answer.as_mut_ptr(), answer.len()) }
+}
+
+fn spare(call: Spare, sheet: &[u8], answer: &mut [u8], cap: u32) -> u32 {
+    // As above.
+    unsafe { call(sheet.as_ptr(), sheet.len(), answer.as_mut_ptr(), answer.len(), cap) }
+}
 
 impl Build {
     /// What the call returns; its answer is written to `answer`.
     pub fn run(&self, call: Call, sheet: &[u8], answer: &mut [u8]) -> u32 {
-        let (from, to) = (sheet.as_ptr(), answer.as_mut_ptr());
-        // Slices are real areas, and a shared one does not overlap with a lent one.
         match call {
-            Call::Crew => unsafe { (self.crew)(from, sheet.len(), to, answer.len()) },
-            Call::Spare { cap } => unsafe { (self.spare)(from, sheet.len(), to, answer.len(), cap) },
+            Call::Crew => crew(self.crew, sheet, answer),
+            Call::CrewByTrial => crew(self.crew_by_trial.expect("the build has the call"), sheet, answer),
+            Call::Spare { cap } => spare(self.spare, sheet, answer, cap),
         }
     }
 }

@@ -9,7 +9,7 @@ use crate::refusal::{refuse, Refusal, NO_PLAN};
 pub const CAP: usize = 2;
 
 /// "Line one: number of steps. Then step tag and person tag."
-fn crew_lines(job: &Job, plan: &[usize]) -> String {
+pub fn crew_lines(job: &Job, plan: &[usize]) -> String {
     let given = job.steps.iter().zip(plan).map(|(step, &person)| format!("{} {}\n", step.tag, job.people[person].tag));
     format!("PLAN {}\n", job.steps.len()) + &given.collect::<String>()
 }
@@ -25,12 +25,17 @@ fn spare_lines(job: &Job, spare: &Spare) -> String {
 }
 
 /// "A line for each rule, in chain order: `RULE`, its kind, level, limit and count."
-fn rule_lines(job: &Job, plan: &[usize]) -> String {
+pub fn rule_lines(job: &Job, plan: &[usize]) -> String {
     let line = |rule: &Rule| {
         let Rule { kind, level, limit, .. } = rule;
         format!("RULE {kind} {level} {limit} {}\n", count(job, rule, plan))
     };
     job.rules.iter().map(line).collect()
+}
+
+/// "A refusal prints one line."
+pub fn refusal_line(refusal: Refusal) -> String {
+    format!("{refusal}\n")
 }
 
 /// All lines for a job with this crew and this spare count.
@@ -52,7 +57,7 @@ pub fn listing(sheet: &[u8]) -> Option<String> {
         Ok(job) => planned(&job),
         Err(refusal) => Err(refusal),
     };
-    Some(lines.unwrap_or_else(|refusal| format!("{refusal}\n")))
+    Some(lines.unwrap_or_else(refusal_line))
 }
 
 #[cfg(test)]

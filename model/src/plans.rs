@@ -5,16 +5,22 @@ use crate::job::{steps_of, Job, Rule, AT_MOST, DIFFERENT, SAME};
 /// For each step the person who does it, by the place in crew order.
 pub type Plan = Vec<usize>;
 
-/// How many plans `first_plan` may have to try.
-const MOST_PLANS: usize = 100_000;
+/// How many plans may have to be tried.
+pub const MOST_PLANS: u128 = 100_000;
+
+/// How many plans a job of so many people and steps has, valid or not.
+pub fn plans_of(people: usize, steps: usize) -> u128 {
+    (people as u128).pow(steps as u32)
+}
+
+/// How many plans the job has, valid or not.
+pub fn plans(job: &Job) -> u128 {
+    plans_of(job.people.len(), job.steps.len())
+}
 
 /// Whether every plan of the job can be tried.
 pub fn is_small(job: &Job) -> bool {
-    let mut plans: usize = 1;
-    job.steps.iter().all(|_| {
-        plans *= job.people.len();
-        plans <= MOST_PLANS
-    })
+    plans(job) <= MOST_PLANS
 }
 
 /// "The number of different classes of its level among the people given to the steps of its scope."
@@ -157,6 +163,9 @@ mod tests {
     fn a_job_is_small_while_its_plans_can_be_tried() {
         assert!(is_small(&plain_job(5, 4, 6)));
         assert!(is_small(&plain_job(1, 12, 0)));
+        // Just as many as may be, and the next number that there is.
+        assert!(is_small(&plain_job(10, 5, 0)));
+        assert!(!is_small(&plain_job(47, 3, 0)));
         assert!(!is_small(&plain_job(64, 12, 0)));
     }
 }

@@ -1,4 +1,4 @@
-//! The sizes and refusals of the C header are the model's.
+//! The sizes, refusals and calls of the C header are the model's.
 
 use model::answers::{MOST_CAP, MOST_CREW_BYTES, SPARE_BYTES, STEP_BYTES};
 use model::card::{CARD, MOST_BYTES, MOST_CARDS};
@@ -58,6 +58,26 @@ fn a_job_under_work_is_laid_out_as_the_headers() {
     ];
     assert_eq!(offsets, [0, 4, 8, 2264, 2276]);
     assert_eq!(align_of::<Work>(), 4);
+}
+
+/// The names of the calls that stand after a word, in the order of the text.
+fn calls_after<'a>(text: &'a str, word: &str) -> Vec<&'a str> {
+    let lines = text.lines().filter_map(|line| line.trim_start().strip_prefix(word));
+    lines.filter(|rest| rest.starts_with("fulmarinvar_")).filter_map(|rest| rest.split('(').next()).collect()
+}
+
+#[test]
+fn calls_are_the_headers() {
+    let bound = calls_after(include_str!("../src/library.rs"), "fn ");
+    assert_eq!(calls_after(TEXT, "uint32_t "), bound);
+    assert_eq!(bound.len(), 6);
+}
+
+#[test]
+fn a_crew_by_trial_is_called_as_a_crew_is() {
+    let arguments = |call: &str| TEXT.split_once(&format!("uint32_t {call}("))?.1.split_once(';').map(|found| found.0);
+    assert!(arguments("fulmarinvar_crew").is_some());
+    assert_eq!(arguments("fulmarinvar_crew_by_trial"), arguments("fulmarinvar_crew"));
 }
 
 #[test]

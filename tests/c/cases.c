@@ -63,9 +63,10 @@ struct cases cases_open(const char *path) {
 
 /* What is printed where a damaged sheet has no name. */
 static void name_damage(struct trial *trial) {
+    static const char *const calls[] = {[CREW] = "crew", [SPARE] = "spare", [CREW_BY_TRIAL] = "crew by trial"};
     if (trial->name[0] == '\0') {
         snprintf(trial->name, sizeof trial->name, "W, %zu bytes, byte %zu is %d: %s", trial->sheet.length,
-                 trial->damaged, trial->value, trial->spare ? "spare" : "crew");
+                 trial->damaged, trial->value, calls[trial->call]);
     }
 }
 
@@ -79,7 +80,11 @@ struct trial cases_next(struct cases *cases) {
     trial.sheet = (struct bytes){cases->sheets[sheet].at, kept};
     trial.damaged = number(cases, 2);
     trial.value = (uint8_t)number(cases, 1);
-    trial.spare = number(cases, 1) == 1;
+    uint32_t call = number(cases, 1);
+    if (call > CREW_BY_TRIAL) {
+        stop("no such call");
+    }
+    trial.call = (enum call)call;
     trial.cap = number(cases, 4);
     trial.room = number(cases, 2);
     trial.number = number(cases, 4);

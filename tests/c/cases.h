@@ -7,6 +7,9 @@
 
 enum { UNDAMAGED = 65535, MOST_SHEETS = 256, MOST_NAME = 255 };
 
+/* By their numbers in the file. */
+enum call { CREW, SPARE, CREW_BY_TRIAL };
+
 struct bytes {
     const uint8_t *at;
     size_t length;
@@ -16,7 +19,7 @@ struct trial {
     struct bytes sheet;
     size_t damaged;
     uint8_t value;
-    int spare;
+    enum call call;
     uint32_t cap;
     size_t room;
     uint32_t number;

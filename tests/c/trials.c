@@ -26,8 +26,11 @@ static void lay(const struct trial *trial, uint8_t *sheet) {
 }
 
 static uint32_t call(const struct trial *trial, const struct area *sheet, const struct area *answer) {
-    if (trial->spare) {
+    if (trial->call == SPARE) {
         return fulmarinvar_spare(sheet->bytes, sheet->length, answer->bytes, answer->length, trial->cap);
+    }
+    if (trial->call == CREW_BY_TRIAL) {
+        return fulmarinvar_crew_by_trial(sheet->bytes, sheet->length, answer->bytes, answer->length);
     }
     return fulmarinvar_crew(sheet->bytes, sheet->length, answer->bytes, answer->length);
 }

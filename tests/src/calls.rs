@@ -1,4 +1,4 @@
-//! The paper's sheets to try through both calls, each with the number and the bytes that the paper gives it; then caps,
+//! The paper's sheets to try through the calls that plan, each with the number and the bytes that the paper gives it; then caps,
 //! and the order of refusals.
 
 use model::answers::{crew_bytes, spare_bytes, Call};
@@ -16,16 +16,20 @@ pub struct Trial {
     pub written: Vec<u8>,
 }
 
+/// What the names of the call's trials end with.
+fn part(call: Call) -> String {
+    match call {
+        Call::Spare { cap } => format!("{}, cap {cap}", call.name()),
+        _ => call.name().to_string(),
+    }
+}
+
 fn trial(name: &str, call: Call, sheet: &Draft, room: usize, outcome: Result<Vec<u8>, u32>) -> Trial {
-    let part = match call {
-        Call::Crew => "crew".to_string(),
-        Call::Spare { cap } => format!("spare, cap {cap}"),
-    };
     let (number, written) = match outcome {
         Ok(bytes) => (0, bytes),
         Err(number) => (number, vec![]),
     };
-    Trial { name: format!("{name}: {part}"), call, sheet: sheet.bytes.clone(), room, number, written }
+    Trial { name: format!("{name}: {}", part(call)), call, sheet: sheet.bytes.clone(), room, number, written }
 }
 
 /// Areas that hold every answer, with bytes to spare.
@@ -38,6 +42,12 @@ fn crew(name: &str, sheet: &Draft, pairs: &[(u32, u32)]) -> Trial {
 
 fn spare(name: &str, sheet: &Draft, cap: u32, count: usize, away: &[u32]) -> Trial {
     trial(name, Call::Spare { cap }, sheet, SPARE_ROOM, Ok(spare_bytes(count, away)))
+}
+
+/// "It gives the same number and bytes": the crew call's trial, asked of the engine that tries every plan.
+fn by_trial(trial: &Trial) -> Trial {
+    let name = trial.name.replace(&part(Call::Crew), &part(Call::CrewByTrial));
+    Trial { name, call: Call::CrewByTrial, ..trial.clone() }
 }
 
 /// Both calls refuse alike.
@@ -58,6 +68,8 @@ pub fn all() -> Vec<Trial> {
     trials.extend(rooms());
     trials.extend(caps());
     trials.extend(refusals_in_order());
+    let crews: Vec<Trial> = trials.iter().filter(|trial| trial.call == Call::Crew).cloned().collect();
+    trials.extend(crews.iter().map(by_trial));
     trials
 }
 
@@ -198,9 +210,11 @@ mod tests {
     }
 
     #[test]
-    fn each_of_the_fifteen_is_tried_in_both_calls() {
-        for crew in [true, false] {
-            let called = all().into_iter().filter(|trial| (trial.call == Call::Crew) == crew);
+    fn each_of_the_fifteen_is_tried_in_every_call() {
+        let calls: [fn(Call) -> bool; 3] =
+            [|call| call == Call::Crew, |call| call == Call::CrewByTrial, |call| matches!(call, Call::Spare { .. })];
+        for is_meant in calls {
+            let called = all().into_iter().filter(|trial| is_meant(trial.call));
             let names: Vec<String> = called.map(|trial| trial.name).collect();
             let tried = |k: &i32| names.iter().any(|name| name.starts_with(&format!("sheet {k},")));
             assert!((1..=15).all(|k| tried(&k)));

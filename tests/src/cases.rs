@@ -1,14 +1,16 @@
-//! The file from which the trials in C take their cases: the paper's sheets, then W cut short and W damaged.
+//! The file from which the trials in C take their cases: the paper's sheets, W with every area up to that of its crew, then W cut
+//! short and W damaged.
 //!
 //! All numbers have their low byte first. First the sheets: how many (u16), and for each its length (u16) and bytes.
 //! Then the cases: how many (u32), and for each
 //!   sheet (u16), bytes kept of it (u16), damaged byte (u16, 65,535 for none), its new value (u8),
-//!   call (u8: 0 crew, 1 spare), cap (u32), length of the answer area (u16), returned number (u32),
+//!   call (u8: 0 crew, 1 spare, 2 crew by trial), cap (u32), length of the answer area (u16), returned number (u32),
 //!   length of the name (u8), name, number of bytes written (u8), these bytes.
 
 use crate::calls;
-use model::answers::{answer, Call, SPARE_BYTES};
+use model::answers::{self, answer, Call, SPARE_BYTES};
 use model::builder::{sheet_w, Draft};
+use model::reader::read;
 
 const UNDAMAGED: u16 = u16::MAX;
 const W_ROOM: usize = 24;
@@ -25,6 +27,7 @@ fn add(file: &mut Vec<u8>, source: &Source, trial: &calls::Trial) {
     let (call, cap) = match trial.call {
         Call::Crew => (0, 0),
         Call::Spare { cap } => (1, cap),
+        Call::CrewByTrial => (2, 0),
     };
     file.extend((source.sheet as u16).to_le_bytes());
     file.extend((source.kept as u16).to_le_bytes());
@@ -39,13 +42,24 @@ fn add(file: &mut Vec<u8>, source: &Source, trial: &calls::Trial) {
     file.extend(&trial.written);
 }
 
-/// Both calls on the sheet, with what the brute force says of them. The areas are as long as W's answers.
-fn both(sheet: &[u8]) -> [calls::Trial; 2] {
-    [(Call::Crew, W_ROOM), (Call::Spare { cap: 2 }, SPARE_BYTES)].map(|(call, room)| {
-        let found = answer(call, sheet, &vec![0; room]).expect("W and its like are small");
-        let written = if found.number == 0 { found.area } else { vec![] };
-        calls::Trial { name: String::new(), call, sheet: vec![], room, number: found.number, written }
-    })
+/// The calls, with areas as long as W's answers.
+const CALLS: [(Call, usize); 3] =
+    [(Call::Crew, W_ROOM), (Call::Spare { cap: 2 }, SPARE_BYTES), (Call::CrewByTrial, W_ROOM)];
+
+/// The call on the sheet, with what the brute force says of it.
+fn asked(name: String, call: Call, sheet: &[u8], room: usize) -> calls::Trial {
+    let found = answer(call, sheet, &vec![0; room]).expect("W and its like are small");
+    let written = match read(sheet) {
+        Ok(job) if found.number == 0 => found.area[..answers::room(call, &job)].to_vec(),
+        _ => vec![],
+    };
+    calls::Trial { name, call, sheet: sheet.to_vec(), room, number: found.number, written }
+}
+
+/// Each call on W with an area of each length, none among them.
+fn rooms() -> impl Iterator<Item = calls::Trial> {
+    let each = CALLS.into_iter().flat_map(|(call, _)| (0..=W_ROOM).map(move |room| (call, room)));
+    each.map(|(call, room)| asked(format!("W, an area of {room}: {}", call.name()), call, &sheet_w().bytes, room))
 }
 
 /// W cut to each length, and with each bit of each byte changed.
@@ -70,7 +84,7 @@ pub fn file() -> Vec<u8> {
     let mut sheets = vec![sheet_w().bytes];
     let mut cases = vec![];
     let mut count: u32 = 0;
-    for trial in calls::all() {
+    for trial in calls::all().into_iter().chain(rooms()) {
         let sheet = sheets.iter().position(|sheet| *sheet == trial.sheet).unwrap_or(sheets.len());
         if sheet == sheets.len() {
             sheets.push(trial.sheet.clone());
@@ -79,8 +93,8 @@ pub fn file() -> Vec<u8> {
         count += 1;
     }
     for (source, draft) in damages() {
-        for trial in both(&draft.bytes) {
-            add(&mut cases, &source, &trial);
+        for (call, room) in CALLS {
+            add(&mut cases, &source, &asked(String::new(), call, &draft.bytes, room));
             count += 1;
         }
     }

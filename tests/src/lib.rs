@@ -1,4 +1,4 @@
-//! Tests of the reader, of the calls and of the planning program: sheets to try with what the paper says of them, random sheets,
+//! Tests of the reader, of the calls and of the programs: sheets to try with what the paper says of them, random sheets,
 //! and random histories of jobs under work.
 
 pub mod calls;

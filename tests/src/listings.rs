@@ -1,17 +1,86 @@
-//! The stored listings: what the planning program prints for each of the paper's sheets, under the sheet's name.
+//! The stored listings: what a program prints for each of some sheets, under the sheet's name.
 
 use crate::trials::papers;
-use model::listing::listing;
+use model::builder::{last_alone, lay, plain_job, rule};
+use model::job::{Job, Rule, AT_LEAST, AT_MOST, BY_PERSON, BY_SHOP, DIFFERENT, MOST_PEOPLE, MOST_RULES, MOST_STEPS};
 
-pub const FILE: &str = "tests/listings.txt";
+/// A file of listings, who gives them, and the sheets with their names.
+pub struct Stored {
+    pub file: &'static str,
+    pub listing: fn(&[u8]) -> Option<String>,
+    pub sheets: fn() -> Vec<Named>,
+}
 
-/// The whole file: for each sheet its name, its listing and an empty line.
-pub fn file() -> String {
-    let block = |name: &str, sheet: &[u8]| {
-        let lines = listing(sheet).expect("the paper's sheets are small");
-        format!("{name}:\n{lines}\n")
+pub type Named = (String, Vec<u8>);
+
+/// The planning program on the paper's sheets.
+pub const PLANNER: Stored = Stored { file: "tests/listings.txt", listing: model::listing::listing, sheets: of_papers };
+
+/// The program that tries every plan on the paper's sheets, which have few, and on sheets with more.
+pub const BY_TRIAL: Stored = Stored { file: "tests/by_trial.txt", listing: model::trial::listing, sheets: to_try };
+
+impl Stored {
+    /// The whole file: for each sheet its name, its listing and an empty line.
+    pub fn text(&self) -> String {
+        let block = |(name, sheet): &Named| {
+            let lines = (self.listing)(sheet).expect("the model knows the listing");
+            format!("{name}:\n{lines}\n")
+        };
+        (self.sheets)().iter().map(block).collect()
+    }
+}
+
+fn of_papers() -> Vec<Named> {
+    papers::trials().into_iter().map(|trial| (trial.name, trial.sheet)).collect()
+}
+
+fn to_try() -> Vec<Named> {
+    let mut sheets = of_papers();
+    sheets.extend(by_plans());
+    sheets.extend(by_size());
+    sheets
+}
+
+fn named(name: &str, job: &Job) -> Named {
+    (name.to_string(), lay(job).bytes)
+}
+
+/// A plain job with these rules.
+fn ruled(people: usize, steps: usize, rules: Vec<Rule>) -> Job {
+    Job { rules, ..plain_job(people, steps, 0) }
+}
+
+/// Sheets by how many plans they have: as many as are printed, the next number of them, and more than two bytes can count.
+fn by_plans() -> [Named; 5] {
+    let at_work =
+        |people, steps, level, least| ruled(people, steps, vec![rule(AT_LEAST, level, least, (1 << steps) - 1)]);
+    [
+        named("1,000 plans, ten people, three of them at work", &at_work(10, 3, BY_PERSON, 3)),
+        named("1,024 plans, four people, all of them at work", &at_work(4, 5, BY_PERSON, 4)),
+        named("3,125 plans, a shop of five, all of them at work", &at_work(5, 5, BY_PERSON, 5)),
+        named("3,125 plans, a shop of five, two shops at work", &at_work(5, 5, BY_SHOP, 2)),
+        named("78,125 plans, a shop of five, two shops at work", &at_work(5, 7, BY_SHOP, 2)),
+    ]
+}
+
+/// Sheets with as many people, steps or rules as there may be, on which the last of them matters.
+fn by_size() -> [Named; 6] {
+    let last_barred = |people, steps: usize| {
+        let mut job = plain_job(people, steps, 0);
+        job.people.iter_mut().for_each(|person| person.permitted ^= 1 << (steps - 1));
+        job
     };
-    papers::trials().iter().map(|trial| block(&trial.name, &trial.sheet)).collect()
+    let last_two = rule(DIFFERENT, BY_PERSON, 0, 3 << (MOST_STEPS - 2));
+    let mut rules = vec![rule(AT_MOST, BY_PERSON, 2, 3); MOST_RULES - 1];
+    rules.push(rule(DIFFERENT, BY_PERSON, 0, 3));
+    [
+        named("64 people, two steps, the last person alone permitted", &last_alone(MOST_PEOPLE, 2)),
+        named("64 people, two steps, nobody permitted the last", &last_barred(MOST_PEOPLE, 2)),
+        named("two people, 12 steps, nobody permitted the last", &last_barred(2, MOST_STEPS)),
+        named("two people, 12 steps, the last two by different people", &ruled(2, MOST_STEPS, vec![last_two])),
+        named("two people, two steps, 64 rules, the last alone not always met", &ruled(2, 2, rules)),
+        named("64 people, 12 steps, 64 rules", &plain_job(MOST_PEOPLE, MOST_STEPS, MOST_RULES)),
+    ]
 }
 
 /// The listing under a name of the file.
@@ -27,12 +96,14 @@ mod tests {
 
     #[test]
     fn each_listing_is_found_under_its_whole_name() {
-        let file = file();
-        for trial in papers::trials() {
-            assert_eq!(under(&file, &trial.name), listing(&trial.sheet).as_deref(), "{}", trial.name);
+        for stored in [PLANNER, BY_TRIAL] {
+            let file = stored.text();
+            for (name, sheet) in (stored.sheets)() {
+                assert_eq!(under(&file, &name), (stored.listing)(&sheet).as_deref(), "{name}");
+            }
+            assert_eq!(under(&file, "sheet 1"), None);
+            assert_eq!(under(&file, "PLAN 3"), None);
         }
-        assert_eq!(under(&file, "sheet 1"), None);
-        assert_eq!(under(&file, "PLAN 3"), None);
     }
 
     #[test]
@@ -50,7 +121,7 @@ mod tests {
             ("sheet 8, one person, one step, not permitted", &["REFUSED 13 CARD 0"]),
             ("sheet 9, W without its last rule", &w[..2]),
         ];
-        let file = file();
+        let file = PLANNER.text();
         for (name, last) in stated {
             let lines: Vec<&str> = under(&file, name).expect("a starred sheet").lines().collect();
             assert!(lines.ends_with(last), "{name}");
@@ -63,8 +134,61 @@ mod tests {
     }
 
     #[test]
+    fn trials_are_those_that_were_worked_out_by_hand() {
+        // The first lines, and how many TRY lines there are.
+        let stated: [(&str, &[&str], usize); 13] = [
+            ("sheet 1, W", &["TRIED 2", "TRY 101 101 101 BREAKS 3", "TRY 101 101 102 VALID"], 2),
+            (
+                "sheet 4, W and a rule 2,1,0,6",
+                &["TRIED 64", "TRY 101 101 101 BREAKS 3", "TRY 101 101 102 BREAKS 4"],
+                64,
+            ),
+            ("sheet 5, W and a rule 4,3,3,7", &["TRIED 7", "TRY 101 101 101 BREAKS 3", "TRY 101 101 102 BREAKS 4"], 7),
+            ("sheet 7, one person, one step, permitted", &["TRIED 1", "TRY 1 VALID", "PLAN 1"], 1),
+            ("sheet 8, one person, one step, not permitted", &["TRIED 1", "TRY 1 DENIED 1", "REFUSED 13 CARD 0"], 1),
+            ("sheet 9, W without its last rule", &["TRIED 1", "TRY 101 101 101 VALID", "PLAN 3"], 1),
+            ("1,000 plans, ten people, three of them at work", &["TRIED 13", "TRY 1001 1001 1001 BREAKS 1"], 13),
+            // 00123 in base four is 27.
+            ("1,024 plans, four people, all of them at work", &["TRIED 28", "PLAN 5"], 0),
+            // 01234 in base five is 194.
+            ("3,125 plans, a shop of five, all of them at work", &["TRIED 195", "PLAN 5"], 0),
+            (
+                "64 people, two steps, the last person alone permitted",
+                &["TRIED 4096", "PLAN 2", "2001 1064", "2002 1064"],
+                0,
+            ),
+            ("two people, 12 steps, the last two by different people", &["TRIED 2", "PLAN 12"], 0),
+            (
+                "two people, two steps, 64 rules, the last alone not always met",
+                &["TRIED 2", "TRY 1001 1001 BREAKS 64", "TRY 1001 1002 VALID", "PLAN 2"],
+                2,
+            ),
+            ("64 people, 12 steps, 64 rules", &["TRIED 1", "PLAN 12"], 0),
+        ];
+        let file = BY_TRIAL.text();
+        for (name, first, trials) in stated {
+            let lines: Vec<&str> = under(&file, name).expect("a stored sheet").lines().collect();
+            assert!(lines.starts_with(first), "{name}");
+            assert_eq!(lines.iter().filter(|line| line.starts_with("TRY")).count(), trials, "{name}");
+        }
+        for (name, plans) in [
+            ("3,125 plans, a shop of five, two shops at work", 3_125),
+            ("78,125 plans, a shop of five, two shops at work", 78_125),
+            ("64 people, two steps, nobody permitted the last", 4_096),
+            ("two people, 12 steps, nobody permitted the last", 4_096),
+        ] {
+            let lines = format!("TRIED {plans}\nREFUSED 13 CARD 0\n");
+            assert_eq!(under(&file, name), Some(lines.as_str()), "{name}");
+        }
+    }
+
+    #[test]
     fn the_readme_shows_w_as_it_is_listed() {
-        let shown = format!("\n{}\n", listing(&sheet_w().bytes).expect("W is small"));
-        assert!(include_str!("../../README.md").contains(&shown));
+        for Stored { listing, .. } in [PLANNER, BY_TRIAL] {
+            let shown = format!("\n{}", listing(&sheet_w().bytes).expect("W is small"));
+            // No line of its own comes after the last: an empty one does, or the end of the block.
+            let mut after = include_str!("../../README.md").split(&shown).skip(1);
+            assert!(after.any(|rest| rest.starts_with('\n') || rest.starts_with("```")), "{shown}");
+        }
     }
 }

@@ -41,6 +41,11 @@ impl Tally {
         }
     }
 
+    /// How many sheets were counted.
+    pub fn entered(&self) -> u64 {
+        self.passed + self.failed
+    }
+
     /// Counts a sheet as passed or failed; the first failing ones are saved.
     pub fn enter(&mut self, number: u64, sheet: &[u8], faults: &[String]) {
         if faults.is_empty() {

@@ -27,7 +27,7 @@ fn every_damage_to_one_byte_of_w_is_answered_as_by_the_brute_force() {
     for (at, value) in (0..w.len()).flat_map(|at| (0..=255).map(move |value| (at, value))) {
         let mut sheet = w.clone();
         sheet[at] = value;
-        for (call, room) in [(Call::Crew, 24), (Call::Spare { cap: 3 }, SPARE_BYTES)] {
+        for (call, room) in [(Call::Crew, 24), (Call::CrewByTrial, 24), (Call::Spare { cap: 3 }, SPARE_BYTES)] {
             let mut area = filled(room);
             let expected = answer(call, &sheet, &area).expect("W and its like are small");
             let number = library::run(call, &sheet, &mut area);

@@ -71,13 +71,6 @@ fn call(name: &str) -> Option<Call> {
     }
 }
 
-fn call_name(call: Call) -> &'static str {
-    match call {
-        Call::Crew => "crew",
-        Call::Spare { .. } => "spare",
-    }
-}
-
 pub fn order(mut args: Vec<String>) -> Option<Order> {
     let time = Duration::from_secs(option(&mut args, "--seconds", 300)?);
     let seed = option(&mut args, "--seed", 1)?;
@@ -168,7 +161,7 @@ pub fn run(order: &Order) -> io::Result<()> {
         let number = 1 + random.below(group.sheets.min(1 << 30) as usize) as u32;
         let until = end.min(Instant::now() + order.time / CLIMBS);
         let place = climb.run(&mut random, (group.job)(number), until)?;
-        let name = format!("{}-{seed}", call_name(order.call));
+        let name = format!("{}-{seed}", order.call.name());
         println!("{name} from {} {number}: {:?} after {} changes", group.name, place.time, place.changes);
         if let Some(out) = kept.offer(&name, &place) {
             if out == name {
@@ -178,7 +171,7 @@ pub fn run(order: &Order) -> io::Result<()> {
         }
         let times = climb.both_times(&place.job)?;
         let story = [
-            format!("bench climb --call {} --seed {seed}, from {} {number}", call_name(order.call), group.name),
+            format!("bench climb --call {} --seed {seed}, from {} {number}", order.call.name(), group.name),
             format!("when found: {times}"),
             shape::line(&place.job),
         ];

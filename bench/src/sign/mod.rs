@@ -9,7 +9,9 @@ use crate::options::{has_option, option};
 use crate::record;
 use model::random::Random;
 use std::io::{self, Write};
-use work::{has_plan, worked, Order as Steps};
+use work::{worked, Order as Steps};
+
+pub use work::has_plan;
 
 pub const USAGE: &str = "bench sign CSV [--sheets N] [GROUP...]
   CSV         the file for a line a job

@@ -1,10 +1,11 @@
-// What the calls return and write: the number, and the bytes of numbers.
+// What the calls return and write: the number, the bytes of numbers, and a crew.
 ghost use mathlib.Core.Path.{_≡_};
 ghost use Prim.Native.Nat.{_<_};
 ghost use Rattle.answer.specs.Number.{refusalNumber, numberOf, Returnable};
 use sheet::Reading;
 
 pub mod bytes;
+pub mod crew;
 
 // The number that a call returns for a refusal with its card.
 pub fn returned(refusal: u32, card: usize) -> u32

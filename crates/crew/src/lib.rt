@@ -1,13 +1,12 @@
-// The crew call: a sheet and a buffer become a number and the first valid plan's bytes. And the count of each rule for a plan.
+// The crew call: a sheet and a buffer become a number and the first valid plan's bytes.
 ghost use mathlib.Core.Path.{_≡_};
 ghost use Rattle.sheet.specs.Readable.{ReadableJob};
-ghost use Rattle.workflow.specs.First.{firstPlan};
+ghost use Rattle.workflow.specs.First.{firstPlan, foundAs};
 ghost use Rattle.instance.specs.Instance.{instanceOf, mayOf};
-ghost use Rattle.first.specs.Settle.{foundAs};
-ghost use Rattle.crew.specs.Crew.{crewAnswer};
+ghost use Rattle.answer.specs.Crew.{crewAnswer};
+use answer::crew::answer_crew;
 use answer::number;
 use answer::returned;
-use card::refusal::PLAN_FAULT;
 use card::refusal::SHORT_FAULT;
 use first::Planned;
 use first::first_plan;
@@ -16,10 +15,6 @@ use sheet::SheetJob;
 use sheet::read_sheet;
 use tables::may_masks;
 use tables::pose;
-use write::write_crew;
-
-pub mod counts;
-mod write;
 
 // The first valid plan of a job.
 pub fn plan_job(job: SheetJob, people: usize, steps: usize, rules: usize) -> Planned
@@ -48,13 +43,7 @@ pub fn crew(sheet: &[u8], buffer: &mut [u8]) -> u32
         return returned(SHORT_FAULT, 0);
     }
     let job = read.job;
-    let found = plan_job(job, people, steps, rules);
-    if !found.found {
-        return returned(PLAN_FAULT, 0);
-    }
-    let step_tag = job.step_tag;
-    let person_tag = job.person_tag;
-    let plan = found.plan;
-    write_crew(&step_tag, &person_tag, &plan, steps, buffer);
-    0
+    let planned = plan_job(job, people, steps, rules);
+    let plan = planned.plan;
+    answer_crew(job, steps, planned.found, &plan, buffer)
 }

@@ -1,4 +1,3 @@
-pub mod Labels
 pub mod Names
 pub mod Planned
 pub mod Open

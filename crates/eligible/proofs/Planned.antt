@@ -11,8 +11,8 @@ use Rattle.pattern.specs.Realize.{nameOf}
 use Rattle.pattern.specs.Rule.{levelIn, scopeIn, unpacked}
 use Rattle.pattern.specs.Tables.{classIn, planIn}
 use Rattle.eligible.specs.Classes.{ForClasses, ForJobs}
-use Rattle.eligible.specs.Labels.{LabelsOf}
-use Rattle.eligible.proofs.Labels.{Part, passed, passed-none, passed-all, passed-adds, part-rest, turn-below, labels-none, labels-cong, labels-more}
+use Rattle.workflow.specs.Labels.{LabelsOf}
+use Rattle.workflow.proofs.Labels.{Part, passed, passed-none, passed-all, passed-adds, part-rest, turn-below, labels-none, labels-cong, labels-more}
 
 -- the name of the class of a step's person, at the level of a rule
 abbrev pub named : ℕ → List ℕ → Job → ℕ → ℕ

@@ -1,16 +1,11 @@
--- Sets of labels, a label standing for the class of a step. Assumes nothing.
-use mathlib.Core.Bool.{Bool, true}
+-- The labels of a pattern as a table holds them. Assumes nothing.
+use mathlib.Core.Bool.{true}
 use mathlib.Core.List.{List}
 use mathlib.Core.Path.{_≡_}
 use Prim.Native.Nat.{ℕ, _≤_, _<_}
 use lib.ListN.{length}
 use Rattle.bits.specs.Word.{hasBit}
 use Rattle.pattern.specs.Tables.{labelIn}
-
--- the set has exactly the labels that c gives to the steps of S below n
-pub record LabelsOf (n : ℕ) (S : ℕ → Bool) (c : ℕ → ℕ) (labels : ℕ) : Type 0 where
-  pub has : (s : ℕ) → s < n → S s ≡ true → hasBit labels (c s) ≡ true
-  pub only : (v : ℕ) → hasBit labels v ≡ true → (s : ℕ) × (s < n) × (S s ≡ true) × (c s ≡ v)
 
 -- a table of labels has a row for the level, with a place for each of the steps
 pub record LabelRow (steps level : ℕ) (label : List ℕ) : Type 0 where

@@ -1,17 +1,18 @@
 // The count of a rule for a pattern: the groups of the placed steps of its scope.
-use super::count::class_count;
 use bits::set;
 use bits::sizes::Labels;
 use bits::sizes::MOST_STEPS;
 use bits::small;
 use pattern::rule;
+use workflow::count::class_count;
 ghost use mathlib.Core.Path.{_≡_};
 ghost use Prim.Native.Nat.{ℕ, _^_, _≤_, _<_};
 ghost use Rattle.bits.specs.Word.{hasBit};
 ghost use Rattle.pattern.specs.Eligible.{groupCount};
 ghost use Rattle.pattern.specs.Rule.{unpacked, levelIn, scopeIn};
 ghost use Rattle.pattern.specs.Tables.{labelIn};
-ghost use Rattle.eligible.specs.Labels.{LabelsOf, LabelRow, SmallLabels, LabelsReady};
+ghost use Rattle.workflow.specs.Labels.{LabelsOf};
+ghost use Rattle.eligible.specs.Labels.{LabelRow, SmallLabels, LabelsReady};
 
 // The labels of some steps at a level.
 pub fn labels_of(steps: u16, level: usize, label: &Labels) -> u64

@@ -1,7 +1,6 @@
 // The count of a rule, for a pattern and for a plan; and the eligibility of a pattern: whether each rule can
 // still be met, by its count over the placed steps and the steps left open.
 pub mod classes;
-pub mod count;
 pub mod groups;
 pub mod plan;
 

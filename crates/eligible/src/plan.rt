@@ -1,11 +1,11 @@
 // The count of a rule for a plan, by the classes of the people.
 use super::classes::mates;
-use super::count::class_count;
 use bits::set;
 use bits::sizes::Crowds;
 use bits::sizes::Plan;
 use bits::small;
 use pattern::rule;
+use workflow::count::class_count;
 ghost use mathlib.Core.Path.{_≡_};
 ghost use Prim.Native.Nat.{_<_, _≤_};
 ghost use lib.ListN.{length};

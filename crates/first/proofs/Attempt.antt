@@ -4,12 +4,11 @@ use mathlib.Core.List.{List}
 use mathlib.Core.Path.{_≡_, refl}
 use Prim.Native.Nat.{ℕ}
 use Rattle.workflow.specs.Problem.{Job}
-use Rattle.workflow.specs.First.{firstPlan}
+use Rattle.workflow.specs.First.{firstPlan, foundAs}
 use Rattle.workflow.proofs.First.{first-plan-given, no-valid-plan}
 use Rattle.pattern.specs.Tables.{mayIn, planIn}
 use Rattle.backtrack.specs.Trial.{Trial}
 use Rattle.backtrack.specs.declared.Tried.the-variants.{Found, Unsatisfiable}
-use Rattle.first.specs.Settle.{foundAs}
 
 pub first-found : (j : Job) (may plan : List ℕ) → Trial true j may plan Found → firstPlan j (mayIn may) ≡ foundAs (j .steps) true plan
 unfolding Trial

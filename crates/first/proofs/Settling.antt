@@ -19,12 +19,12 @@ use Rattle.bits.proofs.Counting.{and-of}
 use Rattle.bits.proofs.Masks.{taken-was}
 use Rattle.bits.proofs.SetLaws.{zero-empty, mod-bit, removed-other}
 use Rattle.workflow.specs.Problem.{Job, May, Plan, Valid}
-use Rattle.workflow.specs.First.{firstPlan}
+use Rattle.workflow.specs.First.{firstPlan, foundAs}
 use Rattle.workflow.proofs.First.{no-valid-plan}
 use Rattle.pattern.specs.Tables.{mayIn, planIn}
 use Rattle.backtrack.proofs.Extending.{own-bit}
 use Rattle.search.specs.Existence.{Existence}
-use Rattle.first.specs.Settle.{Standing, Settled, foundAs}
+use Rattle.first.specs.Settle.{Standing, Settled}
 use Rattle.first.proofs.Narrow.{Narrowed, narrowed-valid, other-standing, fixed-standing, fixed-first, standing-first}
 
 -- one bit of a word

@@ -1,11 +1,11 @@
 -- The first plan, settled step by step: the people permitted are narrowed, and the first plan stays the same. Assumes nothing.
-use mathlib.Core.Bool.{Bool, true, false}
+use mathlib.Core.Bool.{true}
 use mathlib.Core.List.{List}
 use mathlib.Core.Path.{_≡_}
 use Prim.Native.Nat.{ℕ, _<_}
 use lib.ListN.{length}
 use Rattle.workflow.specs.Problem.{Job, May, Plan, Valid}
-use Rattle.workflow.specs.First.{Found, found, nothing, listOf, firstPlan}
+use Rattle.workflow.specs.First.{firstPlan}
 use Rattle.pattern.specs.Tables.{mayIn, planIn}
 
 -- a valid plan is in hand, and each step before s is permitted to its person alone
@@ -19,8 +19,3 @@ pub record Settled (j : Job) (s : ℕ) (may may′ plan′ : List ℕ) : Type 0 
   pub sized : length plan′ ≡ 12
   pub standing : Standing j (mayIn may′) s (planIn plan′)
   pub first : firstPlan j (mayIn may′) ≡ firstPlan j (mayIn may)
-
--- an answer: the people of the first `steps` steps, or nothing
-abbrev pub foundAs : ℕ → Bool → List ℕ → Found
-foundAs steps true plan = found (listOf steps (planIn plan))
-foundAs steps false plan = nothing

@@ -13,10 +13,10 @@ use search::weights::weights;
 ghost use mathlib.Core.Path.{_≡_};
 ghost use Prim.Native.Nat.{_+_, _<_};
 ghost use lib.ListN.{length};
-ghost use Rattle.workflow.specs.First.{firstPlan};
+ghost use Rattle.workflow.specs.First.{firstPlan, foundAs};
 ghost use Rattle.pattern.specs.Tables.{mayIn, planIn};
 ghost use Rattle.levels.specs.Tabled.{tabledJob, Ready};
-ghost use Rattle.first.specs.Settle.{Standing, Settled, foundAs};
+ghost use Rattle.first.specs.Settle.{Standing, Settled};
 
 // How many rules the search over people may look at.
 const EFFORT: u32 = 500;

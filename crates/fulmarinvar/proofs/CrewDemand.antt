@@ -16,8 +16,8 @@ use Rattle.workflow.specs.First.{Found, found, listOf, planOf, firstPlan}
 use Rattle.workflow.proofs.First.{found-cases, firstPlan-found, firstPlan-nothing, first-plan-given, satisfiable-or-not}
 use Rattle.instance.specs.Instance.{instanceIn, mayDo, crewTags}
 use Rattle.answer.specs.Bytes.{Outcome, refused, written}
-use Rattle.crew.specs.Crew.{crewAnswer, crewRead, crewOf}
-use Rattle.crew.proofs.Read.{crew-short, crew-none, crew-found}
+use Rattle.answer.specs.Crew.{crewAnswer, crewRead, crewOf}
+use Rattle.answer.proofs.CrewCases.{crew-short, crew-none, crew-found}
 use Rattle.fulmarinvar.specs.Promise.{CrewPromise}
 use Rattle.fulmarinvar.specs.Demands as demands
 use Rattle.fulmarinvar.specs.Demands.{ReadToAnEnd, crewBytes, CrewExactly}

@@ -7,6 +7,7 @@ pub mod CrewDemand
 pub mod SpareDemand
 pub mod SheetDemand
 pub mod RuleCounts
+pub mod ByTrial
 pub mod OneReading
 pub mod Stands
 pub mod OpenDemand

@@ -11,7 +11,7 @@ use borrow.Author.Tests.{ltb-true, ltb-false}
 use Rattle.bits.specs.Word.{byteAt, longAt}
 use Rattle.bits.proofs.Below.{by-cases, below-suc}
 use Rattle.instance.specs.Instance.{crewTags}
-use Rattle.crew.proofs.Put.{length-tags}
+use Rattle.answer.proofs.PutCrew.{length-tags}
 use Rattle.answer.specs.Bytes.{longBytes, written}
 use Rattle.resiliency.specs.Spare.{awayTags}
 

@@ -10,33 +10,35 @@ use Rattle.workflow.specs.Problem.{opens, distinct, authorisedTest, eligibleTes
 use Rattle.workflow.specs.First.{firstPlan, firstOf, tryAll}
 use Rattle.instance.specs.Instance.{crewTags}
 use Rattle.answer.specs.Bytes.{written}
-use Rattle.crew.specs.Crew.{planned, crewOf, crewRead}
+use Rattle.answer.specs.Crew.{planned, crewOf, crewRead}
 use Rattle.resiliency.specs.Away.{breaking, increasing}
 use Rattle.resiliency.specs.Count.{spare, firstBreaking}
 use Rattle.resiliency.specs.Count as counts
 use Rattle.resiliency.specs.Spare.{awayTags, spareBytes, spareOf, spareRead, spareAnswer}
+use Rattle.exhaustive.specs.Order.{planNumber}
+use Rattle.fulmarinvar.specs.ByTrial.{triedRead}
 use Rattle.fulmarinvar.specs.RuleCounts.{linesBelow, linesFound, linesRead}
 use Rattle.fulmarinvar.specs.Trials.{All, trials}
 
 pub trials-hold : All trials
 unfolding all any count first headerOk personOk stepOk ruleOk limitOk fieldsOk walk member firstFault readSheet readPeople peopleRead stepsRead checked firstClash firstLate
     firstLoose jobOf table opens distinct authorisedTest eligibleTest valid firstPlan firstOf tryAll crewTags written
-    planned crewOf crewRead breaking increasing spare firstBreaking counts.countFrom awayTags spareBytes spareOf spareRead spareAnswer linesBelow linesFound linesRead
+    planned crewOf crewRead breaking increasing spare firstBreaking counts.countFrom awayTags spareBytes spareOf spareRead spareAnswer linesBelow linesFound linesRead triedRead planNumber
 trials-hold = (
-  (refl, refl, (refl, (refl, tt))),
+  (refl, refl, refl, (refl, (refl, tt))),
   (
-    (refl, refl, (refl, tt)),
+    (refl, refl, refl, (refl, tt)),
     (
-      (refl, refl, (refl, tt)),
+      (refl, refl, refl, (refl, tt)),
       (
-        (refl, refl, (refl, tt)),
+        (refl, refl, refl, (refl, tt)),
         (
-          (refl, refl, (refl, tt)),
+          (refl, refl, refl, (refl, tt)),
           (
-            (refl, refl, (refl, tt)),
+            (refl, refl, refl, (refl, tt)),
             (
-              (refl, refl, (refl, tt)),
-              ((refl, refl, (refl, tt)), tt),
+              (refl, refl, refl, (refl, tt)),
+              ((refl, refl, refl, (refl, tt)), tt),
             ),
           ),
         ),

@@ -3,6 +3,7 @@ pub mod History
 pub mod Demands
 pub mod Signing
 pub mod RuleCounts
+pub mod ByTrial
 pub mod Sheets
 pub mod Trials
 pub mod Day

@@ -3,13 +3,13 @@
 use mathlib.Core.List.{List}
 use mathlib.Core.Path.{_≡_}
 use Prim.Native.Nat.{ℕ}
-use Rattle.crew.specs.Crew.{crewAnswer}
+use Rattle.answer.specs.Crew.{crewAnswer}
 use Rattle.resiliency.specs.Spare.{spareAnswer}
 use Rattle.signing.specs.Open.{openAnswer}
 use Rattle.signing.specs.Sign.{signAnswer}
 use Rattle.signing.specs.declared.JobState.{JobState}
 
--- The crew call. `crewAnswer` (crew/specs/Crew.antt): the reader's refusal with its card (`readSheet`, sheet/specs/Read.antt); 1 where the
+-- The crew call, and the one that tries every plan. `crewAnswer` (answer/specs/Crew.antt): the reader's refusal with its card (`readSheet`, sheet/specs/Read.antt); 1 where the
 -- buffer is shorter than 8 bytes a step; 13 where no valid plan exists; else 0 and the first valid plan (`firstPlan`,
 -- workflow/specs/First.antt), later bytes as they were. A refusal leaves every byte.
 pub record CrewPromise (sheet buffer : List ℕ) (number : ℕ) (left : List ℕ) : Type 0 where

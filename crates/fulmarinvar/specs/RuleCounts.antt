@@ -1,5 +1,5 @@
 -- Ask 2 of paper 02, rule counts beside the crew: "Head restorers check a crew against the rules and want the figure." What the planning program
--- is given to print of a rule, in the paper's words. proofs/RuleCounts.antt proves it from the contract of crew::counts::rule_counts (CountsOf). Assumes nothing.
+-- is given to print of a rule, in the paper's words. proofs/RuleCounts.antt proves it from the contract of instance::counts::rule_counts (CountsOf). Assumes nothing.
 use mathlib.Core.List.{List, [], _∷_, _++_}
 use mathlib.Core.Path.{_≡_}
 use Prim.Native.Nat.{ℕ, zero, suc, _<_}
@@ -13,7 +13,7 @@ use Rattle.workflow.specs.Problem.{Plan, DifferentClasses, Asks, Valid, classCo
 use Rattle.workflow.specs.First.{Found, found, nothing, planOf, listOf, firstPlan}
 use Rattle.workflow.specs.Numbered.{kindIn}
 use Rattle.instance.specs.Instance.{classNumber, instanceIn, mayDo}
-use Rattle.crew.specs.Counts.{CountsOf}
+use Rattle.instance.specs.Counts.{CountsOf}
 
 -- ---- "Last, the planning program prints a line for each rule, in chain order"
 
@@ -82,7 +82,7 @@ linesRead s (fault f c) = []
 abbrev pub ruleLines : List ℕ → List RuleLine
 ruleLines s = linesRead s (readSheet s)
 
--- they are what the program is given to print: with the plan that crew::plan_job gives, and its counts by crew::counts::rule_counts
+-- they are what the program is given to print: with the plan that crew::plan_job gives, and its counts by instance::counts::rule_counts
 abbrev pub LinesPrinted : Type 0
 LinesPrinted = (s people steps rules : List ℕ) → readSheet s ≡ job people steps rules → (π : Plan) (counts : List ℕ)
     → firstPlan (instanceIn s people steps rules) (mayDo s people steps rules) ≡ found (listOf (length steps) π)

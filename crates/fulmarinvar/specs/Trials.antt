@@ -4,8 +4,9 @@ use mathlib.Core.Path.{_≡_}
 use Prim.Native.Nat.{ℕ, _+_}
 use lib.ListN.{replicate}
 use Rattle.answer.specs.Bytes.{Outcome, refused, written}
-use Rattle.crew.specs.Crew.{crewAnswer}
+use Rattle.answer.specs.Crew.{crewAnswer}
 use Rattle.resiliency.specs.Spare.{spareAnswer}
+use Rattle.fulmarinvar.specs.ByTrial.{plansTriedOf}
 use Rattle.fulmarinvar.specs.RuleCounts.{RuleLine, ruleLines}
 use Rattle.fulmarinvar.specs.Sheets.{sheetW, sheet3, sheet9, sheetWith, sheetOne}
 
@@ -14,11 +15,13 @@ pub record SpareTrial : Type 0 where
   pub cap : ℕ
   pub spare : Outcome
 
--- a sheet, the bytes that its crew needs, what the crew call gives, the lines of its rules for that crew, and the spare call
+-- a sheet, the bytes that its crew needs, what the crew call gives, by either engine, how many plans are tried by the one that tries every plan, the
+-- lines of its rules for that crew, and the spare call
 pub record SheetTrial : Type 0 where
   pub sheet : List ℕ
   pub size : ℕ
   pub crew : Outcome
+  pub tried : ℕ
   pub lines : List RuleLine
   pub spares : List SpareTrial
 
@@ -32,7 +35,7 @@ SparesHold sheet [] = Unit {0}
 SparesHold sheet (t ∷ ts) = (spareAnswer (t .cap) sheet (used 19) ≡ t .spare) × SparesHold sheet ts
 
 abbrev pub Holds : SheetTrial → Type 0
-Holds t = (crewAnswer (t .sheet) (used (t .size + 3)) ≡ t .crew) × (ruleLines (t .sheet) ≡ t .lines) × SparesHold (t .sheet) (t .spares)
+Holds t = (crewAnswer (t .sheet) (used (t .size + 3)) ≡ t .crew) × (plansTriedOf (t .sheet) ≡ t .tried) × (ruleLines (t .sheet) ≡ t .lines) × SparesHold (t .sheet) (t .spares)
 
 abbrev pub All : List SheetTrial → Type 0
 All [] = Unit {0}
@@ -64,12 +67,12 @@ linesW = figures 1 2 0 1 ∷ figures 1 1 0 1 ∷ figures 2 3 0 2 ∷ []
 -- sheets 1 and 2, which are W with two caps, and 3 to 9
 abbrev pub trials : List SheetTrial
 trials =
-    record { sheet = sheetW; size = 24; crew = crewW; lines = linesW; spares = counted 2 1 (101 ∷ 102 ∷ 0 ∷ []) ∷ counted 0 0 (0 ∷ 0 ∷ 0 ∷ []) ∷ [] }
-    ∷ record { sheet = sheet3; size = 24; crew = crewW; lines = linesW; spares = counted 2 0 (101 ∷ 0 ∷ 0 ∷ []) ∷ [] }
-    ∷ record { sheet = sheetWith 2 1 0 6; size = 24; crew = noPlan 27; lines = []; spares = noCount 2 ∷ [] }
-    ∷ record { sheet = sheetWith 4 3 3 7; size = 24; crew = tags (10 ∷ 101 ∷ 20 ∷ 102 ∷ 30 ∷ 103 ∷ []); lines = linesW ++ (figures 4 3 3 3 ∷ []); spares = counted 2 0 (101 ∷ 0 ∷ 0 ∷ []) ∷ [] }
-    ∷ record { sheet = sheetWith 3 3 1 7; size = 24; crew = noPlan 27; lines = []; spares = noCount 2 ∷ [] }
-    ∷ record { sheet = sheetOne 1; size = 8; crew = tags (10 ∷ 101 ∷ []); lines = []; spares = counted 3 0 (101 ∷ 0 ∷ 0 ∷ []) ∷ [] }
-    ∷ record { sheet = sheetOne 0; size = 8; crew = noPlan 11; lines = []; spares = noCount 3 ∷ [] }
-    ∷ record { sheet = sheet9; size = 24; crew = tags (10 ∷ 101 ∷ 20 ∷ 101 ∷ 30 ∷ 101 ∷ []); lines = figures 1 2 0 1 ∷ figures 1 1 0 1 ∷ []; spares = counted 2 1 (101 ∷ 102 ∷ 0 ∷ []) ∷ [] }
+    record { sheet = sheetW; size = 24; crew = crewW; tried = 2; lines = linesW; spares = counted 2 1 (101 ∷ 102 ∷ 0 ∷ []) ∷ counted 0 0 (0 ∷ 0 ∷ 0 ∷ []) ∷ [] }
+    ∷ record { sheet = sheet3; size = 24; crew = crewW; tried = 2; lines = linesW; spares = counted 2 0 (101 ∷ 0 ∷ 0 ∷ []) ∷ [] }
+    ∷ record { sheet = sheetWith 2 1 0 6; size = 24; crew = noPlan 27; tried = 64; lines = []; spares = noCount 2 ∷ [] }
+    ∷ record { sheet = sheetWith 4 3 3 7; size = 24; crew = tags (10 ∷ 101 ∷ 20 ∷ 102 ∷ 30 ∷ 103 ∷ []); tried = 7; lines = linesW ++ (figures 4 3 3 3 ∷ []); spares = counted 2 0 (101 ∷ 0 ∷ 0 ∷ []) ∷ [] }
+    ∷ record { sheet = sheetWith 3 3 1 7; size = 24; crew = noPlan 27; tried = 64; lines = []; spares = noCount 2 ∷ [] }
+    ∷ record { sheet = sheetOne 1; size = 8; crew = tags (10 ∷ 101 ∷ []); tried = 1; lines = []; spares = counted 3 0 (101 ∷ 0 ∷ 0 ∷ []) ∷ [] }
+    ∷ record { sheet = sheetOne 0; size = 8; crew = noPlan 11; tried = 1; lines = []; spares = noCount 3 ∷ [] }
+    ∷ record { sheet = sheet9; size = 24; crew = tags (10 ∷ 101 ∷ 20 ∷ 101 ∷ 30 ∷ 101 ∷ []); tried = 1; lines = figures 1 2 0 1 ∷ figures 1 1 0 1 ∷ []; spares = counted 2 1 (101 ∷ 102 ∷ 0 ∷ []) ∷ [] }
     ∷ []

@@ -1,7 +1,8 @@
-// The C interface: two calls over the sheet and the buffer that the caller lends, and three over a job in the caller's memory.
+// The C interface: three calls over the sheet and the buffer that the caller lends, and three over a job in the caller's memory.
 // specs/Promise.antt states all that is promised.
 ghost use Rattle.fulmarinvar.specs.Promise.{CrewPromise, SparePromise, OpenPromise, SignPromise, RefusalsPromise};
 use crew::crew;
+use exhaustive::crew_by_trial;
 use resiliency::call::spare;
 use signing::JobState;
 use signing::open::open;
@@ -13,6 +14,14 @@ pub extern "C" fn fulmarinvar_crew(sheet: &[u8], answer: &mut [u8]) -> u32
     ensures { λ r. ⌜ CrewPromise (now (sheet .entry)) (now (answer .entry)) r (now (answer .exit)) ⌝ }
 {
     crew(sheet, answer)
+}
+
+// Writes the first valid crew, found by trying every plan.
+#[no_mangle]
+pub extern "C" fn fulmarinvar_crew_by_trial(sheet: &[u8], answer: &mut [u8]) -> u32
+    ensures { λ r. ⌜ CrewPromise (now (sheet .entry)) (now (answer .entry)) r (now (answer .exit)) ⌝ }
+{
+    crew_by_trial(sheet, answer)
 }
 
 // Writes the spare count.

@@ -8,12 +8,15 @@ use Rattle.sheet.specs.declared.SheetJob as sheet
 use Rattle.workflow.specs.Problem.{Job, May}
 use Rattle.workflow.specs.Numbered.{cardRule}
 
--- "Level 1 is the shop, 2 the bench, 3 the person."
+-- "Level 1 is the shop, 2 the bench, 3 the person.": of everyone's shop, everyone's bench, level and person
+abbrev pub classAt : List ℕ → List ℕ → ℕ → ℕ → ℕ
+classAt shop bench zero p = p
+classAt shop bench (suc zero) p = getD shop p 0
+classAt shop bench (suc (suc zero)) p = getD bench p 0
+classAt shop bench (suc (suc (suc q))) p = p
+
 abbrev pub classNumber : sheet.SheetJob → ℕ → ℕ → ℕ
-classNumber j zero p = p
-classNumber j (suc zero) p = getD (j .shop) p 0
-classNumber j (suc (suc zero)) p = getD (j .bench) p 0
-classNumber j (suc (suc (suc q))) p = p
+classNumber j = classAt (j .shop) (j .bench)
 
 -- the instance that a reading with these counts gives
 abbrev pub instanceOf : ℕ → ℕ → ℕ → sheet.SheetJob → Job

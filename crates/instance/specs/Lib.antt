@@ -1,1 +1,2 @@
 pub mod Instance
+pub mod Counts

@@ -1,1 +1,4 @@
-// The job of a readable sheet as an instance of the workflow satisfiability problem. It is stated in specs/; no code stands here.
+// The job of a readable sheet as an instance of the workflow satisfiability problem, stated in specs/; and the counts of its rules
+// for a plan.
+pub mod count;
+pub mod counts;

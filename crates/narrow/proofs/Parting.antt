@@ -16,7 +16,8 @@ use Rattle.bits.proofs.Counting.{and-of, is-false, bool-ext, count-zero, count-
 use Rattle.bits.proofs.SetLaws.{or-bit, empty-lacks, and-apart, added-other}
 use Rattle.workflow.specs.Problem.{distinct}
 use Rattle.workflow.proofs.Occurs.{distinct-scope-mono}
-use Rattle.pattern.proofs.Counted.{Adds, distinct-new}
+use Rattle.workflow.proofs.Labels.{Adds}
+use Rattle.pattern.proofs.Counted.{distinct-new}
 use Rattle.pattern.specs.Tables.{mayIn}
 use Rattle.narrow.specs.Fixing.{Reaching}
 use Rattle.narrow.specs.Parting.{Apart}

@@ -20,7 +20,8 @@ use Rattle.workflow.specs.Problem.{Job, Plan, Met, classCount, distinct, Pair}
 use Rattle.workflow.proofs.Occurs.{distinct-scope-mono, distinct-scope-split}
 use Rattle.workflow.proofs.Rules.{distinct-of-pair}
 use Rattle.pattern.specs.Rule.{levelIn, leastIn, mostIn, scopeIn, unpacked}
-use Rattle.pattern.proofs.Counted.{Adds, distinct-joins, distinct-new}
+use Rattle.workflow.proofs.Labels.{Adds}
+use Rattle.pattern.proofs.Counted.{distinct-joins, distinct-new}
 use Rattle.eligible.specs.Classes.{ForClasses, ForJobs}
 use Rattle.narrow.specs.Domains.{Takes, Revised}
 use Rattle.narrow.specs.Fixing.{settled, Fixing}

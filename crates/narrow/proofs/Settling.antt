@@ -15,11 +15,10 @@ use Rattle.bits.proofs.Below.{by-cases, true-false, below-suc, and-left, and-ri
 use Rattle.bits.proofs.Counting.{and-of, is-false, bool-ext}
 use Rattle.bits.proofs.SetLaws.{and-bit-left, and-bit-right, or-bit, empty-lacks, has-below, added-has, added-other, removed-lacks, removed-other, removed-was}
 use Rattle.workflow.specs.Problem.{Plan, distinct}
-use Rattle.pattern.proofs.Counted.{Adds}
 use Rattle.pattern.proofs.Leader.{name-same, names-distinct}
 use Rattle.pattern.specs.Realize.{nameOf}
-use Rattle.eligible.specs.Labels.{LabelsOf}
-use Rattle.eligible.proofs.Labels.{labels-none, labels-cong, added-had, labels-more}
+use Rattle.workflow.specs.Labels.{LabelsOf}
+use Rattle.workflow.proofs.Labels.{Adds, labels-none, labels-cong, added-had, labels-more}
 use Rattle.eligible.proofs.Names.{lowest-name}
 use Rattle.eligible.specs.Classes.{Crowd, Grouped, ForClasses}
 use Rattle.narrow.specs.Domains.{Takes}

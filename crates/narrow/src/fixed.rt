@@ -4,7 +4,7 @@ use bits::sizes::Crowds;
 use bits::sizes::Domains;
 use bits::small;
 use eligible::classes::mates;
-use eligible::count::class_count;
+use workflow::count::class_count;
 ghost use mathlib.Core.Path.{_≡_};
 ghost use Prim.Native.Nat.{ℕ, _^_, _≤_, _<_};
 ghost use lib.ListN.{length};

@@ -9,19 +9,13 @@ use Rattle.bits.proofs.Below.{by-cases, and-left, and-right}
 use Rattle.bits.proofs.Counting.{and-of, is-false, bool-ext, count-cong, count-insert}
 use Rattle.workflow.specs.Problem.{Rule, RuleOk, distinct}
 use Rattle.workflow.proofs.Counts.{distinct-cong}
+use Rattle.workflow.proofs.Labels.{Adds}
 use Rattle.workflow.proofs.Occurs.{occurs, occurs-of, occurs-at, distinct-occurs}
 use Rattle.pattern.specs.Pattern.{Label, Pattern}
 use Rattle.pattern.specs.Place.{withStep, grown, Way}
 use Rattle.pattern.specs.Eligible.{groupCount, openCount}
 use Rattle.pattern.proofs.Same.{distinct-scope-cong}
 use Rattle.pattern.proofs.Place.{with-own, with-old, with-cases, grown-placed, grown-pattern}
-
--- the whole is the part and s
-pub record Adds (n : ℕ) (part whole : ℕ → Bool) (s : ℕ) : Type 0 where
-  pub below : s < n
-  pub lacks : part s ≡ false
-  pub has : whole s ≡ true
-  pub others : (u : ℕ) → (u ≡ s → ⊥) → part u ≡ whole u
 
 module _ (n bound : ℕ) (part whole : ℕ → Bool) (c : ℕ → ℕ) (s : ℕ) (adds : Adds n part whole s)
     (bounded : (u : ℕ) → u < n → whole u ≡ true → c u < bound) where

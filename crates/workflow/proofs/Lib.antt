@@ -10,3 +10,4 @@ pub mod Lists
 pub mod First
 pub mod Examples
 pub mod Same
+pub mod Labels

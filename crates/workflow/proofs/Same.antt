@@ -62,13 +62,7 @@ module _ (j j′ : Job) (w : Renamed j j′) where
 
   pub renamed-same : SamePlans j j′
   renamed-same =
-      record {
-        steps = w .steps;
-        people = w .people;
-        rules = w .rules;
-        count = λ i l π within. sym (counted i l π within);
-        valid = λ may π. (renamed-forth may π, renamed-back may π);
-      }
+      record { steps = w .steps; people = w .people; valid = λ may π. (renamed-forth may π, renamed-back may π) }
 
 module _ {j j′ : Job} (w : SamePlans j j′) where
   -- jobs with the same plans have the same first plan
@@ -113,8 +107,5 @@ same-trans a b =
     record {
       steps = b .steps ∙ a .steps;
       people = b .people ∙ a .people;
-      rules = b .rules ∙ a .rules;
-      count = λ i l π within.
-          b .count i (omega (arith, a .rules)) π (λ s m. let z = within s (omega (arith, a .steps)) in omega (arith, a .people)) ∙ a .count i l π within;
       valid = λ may π. (λ v. b .valid may π .0 (a .valid may π .0 v), λ v. a .valid may π .1 (b .valid may π .1 v));
     }

@@ -1,5 +1,5 @@
 -- The first valid plan, found by trying every plan in plan order. Assumes nothing.
-use mathlib.Core.Bool.{Bool, cond}
+use mathlib.Core.Bool.{Bool, true, false, cond}
 use mathlib.Core.List.{List, [], _∷_, _++_}
 use mathlib.Core.Path.{_≡_}
 use Prim.Native.Nat.{ℕ, zero, suc, _<_}
@@ -23,6 +23,11 @@ planOf xs s = getD xs s 0
 unfoldable pub listOf : ℕ → Plan → List ℕ
 listOf zero π = []
 listOf (suc n) π = listOf n π ++ (π n ∷ [])
+
+-- an answer: whether a plan was found, and an array that has it; the people of the first `steps` steps, or nothing
+abbrev pub foundAs : ℕ → Bool → List ℕ → Found
+foundAs steps true plan = found (listOf steps (planOf plan))
+foundAs steps false plan = nothing
 
 -- what f finds at the lowest number below n where it finds something
 unfoldable pub firstOf : ℕ → (ℕ → Found) → Found

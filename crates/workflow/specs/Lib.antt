@@ -3,3 +3,4 @@ pub mod Independent
 pub mod First
 pub mod Numbered
 pub mod Same
+pub mod Labels

@@ -2,14 +2,12 @@
 use mathlib.Core.Logic.{_↔_}
 use mathlib.Core.Path.{_≡_}
 use Prim.Native.Nat.{ℕ, _<_}
-use Rattle.workflow.specs.Problem.{Job, May, Plan, OfPeople, Valid, classCount}
+use Rattle.workflow.specs.Problem.{Job, May, Plan, Valid}
 
--- each rule has the same count for every plan that gives each step one of the people; whoever is permitted what, the same plans are valid
+-- whoever is permitted what, the same plans are valid
 pub record SamePlans (j j′ : Job) : Type 0 where
   pub steps : j′ .steps ≡ j .steps
   pub people : j′ .people ≡ j .people
-  pub rules : j′ .rules ≡ j .rules
-  pub count : (i : ℕ) → i < j .rules → (π : Plan) → OfPeople j π → classCount j′ (j′ .rule i) π ≡ classCount j (j .rule i) π
   pub valid : (may : May) (π : Plan) → Valid j may π ↔ Valid j′ may π
 
 -- the classes and the levels of a job under other numbers: each rule sees two people in one class exactly where it did

@@ -1,1 +1,2 @@
-// The workflow satisfiability problem. It is stated in specs/; no code stands here.
+// The workflow satisfiability problem, stated in specs/; and the count of different classes.
+pub mod count;

@@ -1,9 +1,10 @@
 -- `crew::crew` meets its contract: each return is one case of `crewAnswer`. Assumes nothing.
+use mathlib.Core.Path.{_≡_}
 use native.Mathlib.Omega.{arith}
-use borrow.Author.Tests.{not-true, not-false}
-use Rattle.answer.proofs.Returnable.{read-returnable}
-use Rattle.crew.proofs.Call.{returns-refusal, readable, returns-short, returns-none, plan-below, returns-found}
 use borrow.Author.Needs.{needs}
+use lib.ListN.{length}
+use Rattle.answer.proofs.Returnable.{read-returnable}
+use Rattle.answer.proofs.CrewCall.{returns-refusal, readable, returns-short, plan-below, returns-planned}
 use Rattle.crew.proofs.crew.Statement.{statement}
 use Rattle.crew.proofs.crew.Tie as tie
 
@@ -40,70 +41,47 @@ returns-2 c =
 plan-job-requires : tie.Need-plan-job-requires
 plan-job-requires c κs = let g = c .before .before .before in readable _ _ (read g .read-sheet .ensures) _ _ _ (g .reading .given .1)
 
-returned-requires-2 : tie.Need-returned-requires-2
-returned-requires-2 c κs = search needs
+-- from the answer back to the plan, from there to the branch in which the buffer has room, and to the reading
+abbrev planned : tie.After-answer-crew-arg → tie.After-plan-job
+planned c = c .before .before .before
 
--- from the plan back to the branch in which the buffer has room, and from there to the reading
 abbrev room : tie.After-plan-job → tie.Else1
 room c = c .before .before
 
 abbrev told : tie.Else1 → tie.After-reading
 told c = c .before .before
 
-returns-3 : tie.Need-returns-3
-returns-3 c =
-    let p = c .before .before .before in
+-- the array of a plan has its size
+plan-sized : (c : tie.After-plan) → length (c .before .plan-job .result .plan) ≡ 12
+plan-sized c = search needs
+
+answer-crew-requires : tie.Need-answer-crew-requires
+answer-crew-requires c κs =
+    let p = planned c in
     let e = room p in
     let g = told e in
-    let r = p .plan-job in
-    returns-none _ _ (read g .read-sheet .ensures) _ _ _ (g .reading .given .1) (r .result .found) (r .result .plan) (r .ensures) _ (e .if1 .left)
-    (not-true _ (c .before .if2 .taken)) _ (c .returned2 .ensures)
-
--- and from the writing back to the branch in which a plan was found
-abbrev writing : tie.After-write-crew-arg → tie.Else2
-writing c = c .before .before .before .before .before .before .before
-
-write-crew-requires : tie.Need-write-crew-requires
-write-crew-requires c κs = (
-  search needs,
-  search needs,
-  search needs,
-  (let g = told (room (writing c .before .before)) in readable _ _ (read g .read-sheet .ensures) _ _ _ (g .reading .given .1) .steps-most),
-  room (writing c .before .before) .if1 .left,
-  (let f = writing c in
-      let r = f .before .before .plan-job in
-      let g = told (room (f .before .before)) in
-      plan-below _ _ (read g .read-sheet .ensures) _ _ _ (g .reading .given .1) (r .result .found) (r .result .plan) (r .ensures) (not-false _ (f .if2 .left))),
-)
+    let r = p .plan-job in (
+      plan-sized (c .before .before),
+      readable _ _ (read g .read-sheet .ensures) _ _ _ (g .reading .given .1) .steps-most,
+      e .if1 .left,
+      plan-below _ _ (read g .read-sheet .ensures) _ _ _ (g .reading .given .1) (r .result .found) (r .result .plan) (r .ensures),
+    )
 
 same-length : tie.Need-same-length
 same-length c = search needs
 
-returns-4 : tie.Need-returns-4
-returns-4 c =
-    let w = c .before .before in
-    let f = writing (w .before) in
-    let r = f .before .before .plan-job in
-    let e = room (f .before .before) in
+returns-3 : tie.Need-returns-3
+returns-3 c =
+    let a = c .before .before in
+    let p = planned (a .before) in
+    let e = room p in
     let g = told e in
-    returns-found _ _ (read g .read-sheet .ensures) _ _ _ (g .reading .given .1) (r .result .found) (r .result .plan) (r .ensures) (not-false _ (f .if2 .left)) _ _
-    (e .if1 .left) (w .write-crew .ensures)
+    let r = p .plan-job in
+    returns-planned _ _ (read g .read-sheet .ensures) _ _ _ (g .reading .given .1) (r .result .found) (r .result .plan) (r .ensures) _ (e .if1 .left) _ _
+    (a .answer-crew .ensures .0) (a .answer-crew .ensures .1)
 
 pub crew-spec : {M : Type 1} → statement M
 crew-spec =
     tie.close
-    (tie.spec
-    read-sheet-requires
-    enum-known-reading
-    enum-told
-    number-requires
-    returns
-    mul-if1
-    returned-requires
-    returns-2
-    plan-job-requires
-    returned-requires-2
-    returns-3
-    write-crew-requires
-    same-length
-    returns-4)
+    (tie.spec read-sheet-requires enum-known-reading enum-told number-requires returns mul-if1 returned-requires returns-2 plan-job-requires
+    answer-crew-requires same-length returns-3)

@@ -1,7 +1,7 @@
 -- The job that the tables pose has the first plan of the sheet's. Assumes nothing.
 use mathlib.Core.Path.{_∙_, ap}
 use Prim.Native.Nat.{ℕ}
-use Rattle.first.specs.Settle.{foundAs}
+use Rattle.workflow.specs.First.{foundAs}
 use Rattle.tables.proofs.Posing.{posed-first}
 use Rattle.tables.proofs.Same.{permits}
 use Rattle.crew.proofs.plan_job.Statement.{statement}

@@ -1,6 +1,5 @@
 -- `planner::write_answer` is safe: a refusal of the reader has a number, a readable sheet few steps and rules, and a plan that was found people of
 -- the sheet. Assumes nothing.
-use native.Mathlib.Omega.{arith}
 use borrow.Author.Needs.{needs}
 use borrow.Author.Tests.{not-false}
 use Rattle.answer.proofs.Returnable.{read-returnable}
@@ -8,8 +7,9 @@ use Rattle.answer.proofs.WasRead.{was-readable}
 use Rattle.sheet.specs.Readable.{ReadableJob}
 use Rattle.workflow.specs.Problem.{OfPeople}
 use Rattle.instance.specs.Instance.{instanceOf}
-use Rattle.pattern.specs.Tables.{planIn}
-use Rattle.crew.proofs.Found.{found-within}
+use Rattle.workflow.specs.First.{planOf}
+use Rattle.answer.proofs.Found.{found-within}
+use Rattle.instance.proofs.Counted.{staffed, rules-staffed}
 use Rattle.planner.proofs.write_answer.Statement.{statement}
 use Rattle.planner.proofs.write_answer.Tie as tie
 
@@ -69,20 +69,23 @@ chosen c = c .before .before .before .before .before .before
 
 -- it gives each step one of the people
 within : (c : tie.Else1) → let p = c .before .before in let g = p .before .before .before .reading .given .0 in
-    OfPeople (instanceOf (g .0) (g .1 .0) (g .1 .1 .0) (p .before .before .before .before .before .read-sheet .result .job)) (planIn (p .plan-job .result .plan))
+    OfPeople (instanceOf (g .0) (g .1 .0) (g .1 .1 .0) (p .before .before .before .before .before .read-sheet .result .job)) (planOf (p .plan-job .result .plan))
 within c = let r = c .before .before .plan-job in found-within _ _ (r .result .found) (r .result .plan) (r .ensures) (not-false _ (c .if1 .left))
 
 write-plan-requires : tie.Need-write-plan-requires
 write-plan-requires c κs =
     let e = chosen c in
     let w = readable (e .before .before .before) in
-    (w .steps-most, search needs, λ s l. omega (arith, within e s l, w .people-most))
+    (w .steps-most, search needs, staffed w (e .before .before .plan-job .result .plan) (within e))
 
 write-spare-requires : tie.Need-write-spare-requires
 write-spare-requires c κs = search needs
 
 rule-counts-requires : tie.Need-rule-counts-requires
-rule-counts-requires c κs = let e = chosen (c .before .before .before .before) in (readable (e .before .before .before), search needs, within e)
+rule-counts-requires c κs =
+    let e = chosen (c .before .before .before .before) in
+    let w = readable (e .before .before .before) in
+    rules-staffed w (e .before .before .plan-job .result .plan) (search needs) (staffed w (e .before .before .plan-job .result .plan) (within e))
 
 write-rules-requires : tie.Need-write-rules-requires
 write-rules-requires c κs =

@@ -1,15 +1,18 @@
-//! One sheet through both calls: the number, every byte of the area and those around it, and the sheet itself.
+//! One sheet through the calls that plan: the number, every byte of the area and those around it, and the sheet itself.
 
+use crate::kinds;
 use model::answers::{answer, room, Answer, Call};
 use model::garble::Sample;
 use model::library;
 use model::random::Random;
 use model::reader::read;
-use model::refusal::{is_no_plan, Refusal};
 use sheet_tests::tally::Tally;
 
 /// Bytes on each side of the answer area that nobody may touch.
 const MARGIN: usize = 32;
+
+/// How many people there may be for the spare count to be asked for: every three of them stay away in turn.
+const MOST_SPARED: usize = 8;
 
 /// Mostly a cap that the paper allows; now and then one above, also such as have a low byte within.
 fn any_cap(random: &mut Random) -> u32 {
@@ -38,54 +41,38 @@ fn called(call: Call, sheet: &[u8], around: &mut [u8]) -> u32 {
     library::run(call, sheet, &mut around[MARGIN..end])
 }
 
-fn outcome(call: Call, answer: &Answer) -> String {
-    let name = match call {
-        Call::Crew => "crew",
-        Call::Spare { .. } => "spare",
-    };
-    match (Refusal::of(answer.number), call) {
-        (None, Call::Crew) => format!("{name}, a plan"),
-        (None, Call::Spare { cap }) => format!("{name}, {} of {cap}", answer.area[0]),
-        (Some(refusal), _) => format!("{name}, refusal {:2}", refusal.number),
-    }
+fn fault(call: Call, found: &Answer, expected: &Answer) -> Option<String> {
+    let room = found.area.len();
+    (found != expected).then(|| format!("{call:?}, area of {room}: expected {expected:?}, found {found:?}"))
 }
 
-/// Of a job too large for the brute force only the kind of answer is known: a plan or none.
-fn loose_fault(found: &Answer, before: &[u8]) -> Option<String> {
-    let none = is_no_plan(found.number) && found.area == before;
-    (found.number != 0 && !none).then(|| format!("number {} for a readable sheet", found.number))
-}
-
-fn fault(call: Call, found: &Answer, expected: Option<&Answer>, before: &[u8]) -> Option<String> {
-    let Some(expected) = expected else {
-        return loose_fault(found, before);
-    };
-    if found == expected {
-        return None;
-    }
-    Some(format!("{call:?}, area of {}: expected {expected:?}, found {found:?}", before.len()))
+/// "It gives the same number and bytes": the crew call, lent the same, has to leave what the engine that tries every plan left.
+fn differs_from_crew(sheet: &[u8], before: &[u8], number: u32, after: &[u8]) -> Option<String> {
+    let mut crews = before.to_vec();
+    let crew = called(Call::Crew, sheet, &mut crews);
+    ((number, after) != (crew, &crews[..])).then(|| format!("by trial {number} {after:?}, crew {crew} {crews:?}"))
 }
 
 fn check_call(random: &mut Random, call: Call, sheet: &[u8], tally: &mut Tally) -> Vec<String> {
     let need = read(sheet).map_or(24, |job| room(call, &job));
     let length = any_room(random, need) + 2 * MARGIN;
     let before: Vec<u8> = (0..length).map(|_| random.byte()).collect();
+    let inner = MARGIN..length - MARGIN;
+    let expected = answer(call, sheet, &before[inner.clone()]).expect("every plan can be tried");
+    kinds::of(call, sheet, &expected).into_iter().for_each(|kind| tally.count(kind));
     let (mut after, lent) = (before.clone(), sheet.to_vec());
     let number = called(call, &lent, &mut after);
 
-    let inner = MARGIN..length - MARGIN;
     let found = Answer { number, area: after[inner.clone()].to_vec() };
-    let expected = answer(call, sheet, &before[inner.clone()]);
-    match &expected {
-        Some(expected) => tally.count(outcome(call, expected)),
-        None => tally.count("too large for the brute force".to_string()),
-    }
-    let mut faults: Vec<String> = fault(call, &found, expected.as_ref(), &before[inner.clone()]).into_iter().collect();
+    let mut faults: Vec<String> = fault(call, &found, &expected).into_iter().collect();
     if after[..MARGIN] != before[..MARGIN] || after[inner.end..] != before[inner.end..] {
         faults.push(format!("{call:?}: bytes outside the area were written"));
     }
     if lent != sheet {
         faults.push(format!("{call:?}: the sheet was written to"));
+    }
+    if call == Call::CrewByTrial {
+        faults.extend(differs_from_crew(sheet, &before, number, &after));
     }
     faults
 }
@@ -96,8 +83,12 @@ pub fn check(random: &mut Random, sample: &Sample, tally: &mut Tally) -> Vec<Str
     if sample.job.is_some() && read(&sample.sheet).ok() != sample.job {
         faults.push("the model does not read a good sheet".to_string());
     }
-    faults.extend(check_call(random, Call::Crew, &sample.sheet, tally));
-    let cap = any_cap(random);
-    faults.extend(check_call(random, Call::Spare { cap }, &sample.sheet, tally));
+    let mut calls = vec![Call::Crew, Call::CrewByTrial];
+    if read(&sample.sheet).map_or(true, |job| job.people.len() <= MOST_SPARED) {
+        calls.push(Call::Spare { cap: any_cap(random) });
+    }
+    for call in calls {
+        faults.extend(check_call(random, call, &sample.sheet, tally));
+    }
     faults
 }

@@ -1,10 +1,10 @@
-//! Compares the library with the brute force on random small sheets, more of them garbled than good.
+//! Compares the library with the brute force on random sheets of which every plan can be tried, more of them garbled than good.
 
 mod check;
+mod kinds;
+mod sheets;
 
 use check::check;
-use model::garble::sample_of;
-use model::jobs::small_job;
 use sheet_tests::order::{usage, Order};
 use std::env;
 use std::process::ExitCode;
@@ -15,10 +15,11 @@ fn main() -> ExitCode {
         return ExitCode::from(2);
     };
     println!("seed {}", order.seed);
-    let tally = order.run("compare", |number, random, tally| {
-        let sample = sample_of(random, small_job);
+    let mut tally = order.run("compare", |number, random, tally| {
+        let sample = sheets::any(random);
         let faults = check(random, &sample, tally);
         tally.enter(number, &sample.sheet, &faults);
     });
+    tally.want(kinds::all());
     tally.end()
 }

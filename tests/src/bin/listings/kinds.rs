@@ -1,150 +1,32 @@
-//! What a listing shows. A run in which one of these was never met has failed.
+//! What the listings of both programs show.
 
-use model::job::{AT_LEAST, AT_MOST, BY_PERSON, BY_SHOP, DIFFERENT, MOST_RULES, SAME};
-use model::listing::CAP;
-use model::refusal::{BAD_LENGTH, NO_PLAN};
-use std::cmp::Ordering::{self, Equal, Greater, Less};
+use model::job::MOST_RULES;
 
 /// A listing that is no refusal, and how many of these there have to be.
 pub const PLAN: &str = "a plan";
 pub const LEAST_PLANS: u64 = 200;
 
-/// A right listing, however it was judged, that a program without its last RULE line cannot print.
-const RULE_LAST: &str = "a RULE line last";
-
 const NO_RULE: &str = "a plan, no RULE line";
 const ALL_RULES: &str = "a plan, 64 RULE lines";
 
-/// Where the count of a rule that is met may stand to its limit, which is 0 for kinds 1 and 2.
-const COUNTS: [(u8, &[Ordering]); 4] =
-    [(SAME, &[Greater]), (DIFFERENT, &[Greater]), (AT_MOST, &[Less, Equal]), (AT_LEAST, &[Equal, Greater])];
+/// What is wanted of the RULE lines of both.
+pub const RULES: [&str; 2] = [NO_RULE, ALL_RULES];
 
-fn large(shown: &str) -> String {
-    format!("too large for the brute force, {shown}")
-}
-
-fn refusal(number: u32) -> String {
+pub fn refusal(number: u32) -> String {
     format!("refusal {number:2}")
 }
 
-fn spare(count: usize) -> String {
-    format!("SPARE {count} OF {CAP}")
+/// The lines of the listing that begin with a word.
+pub fn lines<'a>(listing: &'a str, word: &'static str) -> impl Iterator<Item = &'a str> {
+    listing.lines().filter(move |line| line.split(' ').next() == Some(word))
 }
 
-fn rule(kind: u8, level: u8, count: Ordering) -> String {
-    let place = match count {
-        Less => "below",
-        Equal => "at",
-        Greater => "above",
+/// The first kinds of a listing that is no refusal.
+pub fn of_plan(listing: &str) -> Vec<String> {
+    let rules = match lines(listing, "RULE").count() {
+        0 => Some(NO_RULE),
+        MOST_RULES => Some(ALL_RULES),
+        _ => None,
     };
-    format!("RULE {kind} {level}, the count {place} the limit")
-}
-
-/// Every kind but the plan, which is wanted more than once.
-pub fn all() -> Vec<String> {
-    let mut kinds = vec![NO_RULE.to_string(), ALL_RULES.to_string(), large(PLAN)];
-    kinds.extend((BAD_LENGTH..=NO_PLAN).map(refusal));
-    kinds.extend((0..=CAP).map(spare));
-    for (kind, counts) in COUNTS {
-        kinds.extend((BY_SHOP..=BY_PERSON).flat_map(|level| counts.iter().map(move |&count| rule(kind, level, count))));
-    }
-    kinds
-}
-
-/// The figures of a line, without its words.
-fn figures(line: &str) -> Vec<u32> {
-    line.split(' ').filter_map(|field| field.parse().ok()).collect()
-}
-
-fn of_rule(line: &str) -> String {
-    let figures = figures(line);
-    rule(figures[0] as u8, figures[1] as u8, figures[3].cmp(&figures[2]))
-}
-
-/// The kinds of a listing that is the model's.
-pub fn of(listing: &str) -> Vec<String> {
-    let lines = |word: &'static str| listing.lines().filter(move |line| line.starts_with(word));
-    if let Some(line) = lines("REFUSED").next() {
-        return vec![refusal(figures(line)[0])];
-    }
-    let mut kinds = vec![PLAN.to_string()];
-    match lines("RULE").count() {
-        0 => kinds.push(NO_RULE.to_string()),
-        MOST_RULES => kinds.push(ALL_RULES.to_string()),
-        _ => {}
-    }
-    kinds.extend(lines("SPARE").map(String::from));
-    kinds.extend(lines("RULE").map(of_rule));
-    kinds
-}
-
-/// The kind of a right listing that ends in a rule.
-pub fn of_end(listing: &str) -> Option<String> {
-    listing.lines().last().filter(|line| line.starts_with("RULE")).map(|_| RULE_LAST.to_string())
-}
-
-/// Of a listing with the program's own crew only the first kind counts.
-pub fn of_large(listing: &str) -> Vec<String> {
-    of(listing).iter().take(1).map(|kind| large(kind)).collect()
-}
-
-#[cfg(test)]
-mod tests {
-    use super::*;
-    use model::builder::{one_by_one, plain, sheet_w, w_and, Draft};
-    use model::listing::listing;
-    use std::collections::BTreeSet;
-
-    fn listed(sheet: Draft) -> String {
-        listing(&sheet.bytes).expect("a small job")
-    }
-
-    #[test]
-    fn a_listing_has_the_kinds_of_its_lines() {
-        let w = [
-            "a plan",
-            "SPARE 1 OF 2",
-            "RULE 1 2, the count above the limit",
-            "RULE 1 1, the count above the limit",
-            "RULE 2 3, the count above the limit",
-        ];
-        assert_eq!(of(&listed(sheet_w())), w);
-        assert_eq!(of(&listed(w_and(4, 3, 3, 7))).last().unwrap(), "RULE 4 3, the count at the limit");
-        assert_eq!(of(&listed(w_and(3, 1, 2, 3))).last().unwrap(), "RULE 3 1, the count below the limit");
-        assert_eq!(of(&listed(one_by_one(1))), ["a plan", "a plan, no RULE line", "SPARE 0 OF 2"]);
-        assert_eq!(of(&listed(plain(1, 2, 64)))[..3], ["a plan", "a plan, 64 RULE lines", "SPARE 0 OF 2"]);
-        assert_eq!(of(&listed(plain(1, 2, 65))), ["refusal  9"]);
-        assert_eq!(of(&listed(w_and(3, 3, 1, 7))), ["refusal 13"]);
-    }
-
-    #[test]
-    fn a_large_listing_shows_none_of_the_others() {
-        assert_eq!(of_large(&listed(sheet_w())), ["too large for the brute force, a plan"]);
-        assert_eq!(of_large("REFUSED 13 CARD 0\n"), ["too large for the brute force, refusal 13"]);
-    }
-
-    #[test]
-    fn a_listing_ends_in_a_rule_where_its_job_has_one_and_a_plan() {
-        assert_eq!(of_end(&listed(sheet_w())).as_deref(), Some("a RULE line last"));
-        assert_eq!(of_end(&listed(one_by_one(1))), None);
-        assert_eq!(of_end(&listed(w_and(3, 3, 1, 7))), None);
-        assert_eq!(of_end(""), None);
-    }
-
-    #[test]
-    fn every_kind_of_rule_is_wanted_at_every_level() {
-        let wanted: BTreeSet<String> = all().into_iter().collect();
-        let pairs: BTreeSet<&str> = wanted.iter().filter_map(|kind| kind.strip_prefix("RULE ")?.get(..3)).collect();
-        let expected = (1..=4).flat_map(|kind| (1..=3).map(move |level| format!("{kind} {level}")));
-        assert_eq!(pairs, expected.collect::<Vec<_>>().iter().map(String::as_str).collect());
-    }
-
-    #[test]
-    fn what_is_wanted_is_what_listings_show() {
-        let wanted = all();
-        for sheet in [sheet_w(), w_and(4, 3, 3, 7), w_and(3, 1, 2, 3), one_by_one(0), one_by_one(1), plain(1, 2, 64)] {
-            let shown = of(&listed(sheet));
-            assert!(shown.iter().filter(|kind| *kind != PLAN).all(|kind| wanted.contains(kind)), "{shown:?}");
-        }
-    }
+    [PLAN].into_iter().chain(rules).map(String::from).collect()
 }

@@ -1,90 +1,153 @@
-//! Compares what the planning program prints with the model, byte for byte: on random sheets, on the sheets to try, and with the
-//! stored listings. Also writes these, or checks that they are up to date.
+//! Compares what the programs print with the model, byte for byte: on random sheets, on the sheets to try, and with the stored
+//! listings. Also writes these, or checks that they are up to date.
 
+mod by_trial;
 mod kinds;
-mod large;
+mod planner;
 mod program;
-mod sheets;
 
-use model::listing::listing;
+use model::random::Random;
 use program::Program;
-use sheet_tests::files;
-use sheet_tests::listings::{file, under, FILE};
+use sheet_tests::files::{self, Action};
+use sheet_tests::listings::{under, Stored};
 use sheet_tests::order::Order;
 use sheet_tests::tally::Tally;
-use sheet_tests::trials::{self, papers, Trial};
-use sheets::Drawn;
+use sheet_tests::trials::{self, Trial};
 use std::process::ExitCode;
 use std::{env, fs};
 
 const USAGE: &str = "usage: listings write | check
-       listings COUNT SEED [--seconds N] PROGRAM";
+       listings [--by-trial] COUNT SEED [--seconds N] PROGRAM
+The program is the planning program, or with --by-trial the one that tries every plan.";
 
 /// The kinds of a listing that is right, or what is wrong with it.
 type Verdict = Result<Vec<String>, String>;
 
-/// Of a sheet that is too large for the model it matters whether a plan is known to exist.
-fn by_model(sheet: &[u8], planned: bool, printed: &str) -> Verdict {
-    match listing(sheet) {
-        Some(expected) if printed == expected => Ok(kinds::of(printed)),
-        Some(expected) => Err(format!("model {expected:?}, program {printed:?}")),
-        None => large::fault(sheet, planned, printed).map_or_else(|| Ok(kinds::of_large(printed)), Err),
-    }
+struct Drawn {
+    sheet: Vec<u8>,
+    /// Whether it was made to have a plan. Of the others it is not known.
+    planned: bool,
 }
 
-fn by_file(stored: &str, name: &str, printed: &str) -> Verdict {
-    match under(stored, name) {
-        Some(expected) if printed == expected => Ok(vec![format!("as in {FILE}")]),
-        expected => Err(format!("{name}: {FILE} {expected:?}, program {printed:?}")),
-    }
+/// Which program is compared, and what its listings show.
+struct Subject {
+    stored: Stored,
+    draw: fn(&mut Random) -> Drawn,
+    /// The kinds of a listing that is the model's.
+    kinds: fn(&[u8], &str) -> Vec<String>,
+    /// Of a listing that the model cannot give. Without it the program is not run on such sheets, for it would take too long
+    /// itself, and the run has failed.
+    large: Option<fn(&Drawn, &str) -> Verdict>,
+    /// The kind of a right listing, however it was judged, that the wrong program of tests/wrong cannot print.
+    lost: fn(&str) -> Option<String>,
+    /// The kinds that have to be met, beside enough plans.
+    wanted: fn() -> Vec<String>,
 }
 
 /// Has the sheet listed, and enters what the judge says of it.
-fn enter(program: &Program, sheet: &[u8], judge: impl Fn(&str) -> Verdict, tally: &mut Tally) {
-    let number = tally.passed + tally.failed;
-    let judged = |printed: String| Ok((judge(&printed)?, kinds::of_end(&printed)));
+fn enter(subject: &Subject, program: &Program, sheet: &[u8], judge: impl Fn(&str) -> Verdict, tally: &mut Tally) {
+    let number = tally.entered();
+    let judged = |printed: String| Ok((judge(&printed)?, (subject.lost)(&printed)));
     match program.listing(sheet).and_then(judged) {
-        Ok((kinds, end)) => {
-            kinds.into_iter().chain(end).for_each(|kind| tally.count(kind));
+        Ok((kinds, lost)) => {
+            kinds.into_iter().chain(lost).for_each(|kind| tally.count(kind));
             tally.enter(number, sheet, &[]);
         }
         Err(fault) => tally.enter(number, sheet, &[fault]),
     }
 }
 
-fn run(order: &Order, program: &Program, stored: &str) -> Tally {
+/// By the model, or where it does not know the listing by what can be said of a large one.
+fn enter_by_model(subject: &Subject, program: &Program, name: &str, drawn: &Drawn, tally: &mut Tally) {
+    let sheet = &drawn.sheet;
+    let judge: Box<dyn Fn(&str) -> Verdict> = match ((subject.stored.listing)(sheet), subject.large) {
+        (Some(expected), _) => Box::new(move |printed| {
+            if printed == expected {
+                return Ok((subject.kinds)(sheet, printed));
+            }
+            Err(format!("model {expected:?}, program {printed:?}"))
+        }),
+        (None, Some(large)) => Box::new(move |printed| large(drawn, printed)),
+        (None, None) => return tally.enter(tally.entered(), sheet, &[format!("{name}not run: too many plans")]),
+    };
+    enter(subject, program, sheet, |printed| judge(printed).map_err(|fault| format!("{name}{fault}")), tally);
+}
+
+fn by_file(stored: &str, file: &str, name: &str, printed: &str) -> Verdict {
+    match under(stored, name) {
+        Some(expected) if printed == expected => Ok(vec![format!("as in {file}")]),
+        expected => Err(format!("{name}: {file} {expected:?}, program {printed:?}")),
+    }
+}
+
+fn run(order: &Order, subject: &Subject, program: &Program, stored: &str) -> Tally {
     let mut tally = order.run(&format!("listings-{}", program.name()), |_, random, tally| {
-        let Drawn { sheet, planned } = sheets::any(random);
-        enter(program, &sheet, |printed| by_model(&sheet, planned, printed), tally);
+        enter_by_model(subject, program, "", &(subject.draw)(random), tally);
     });
     for Trial { name, sheet, .. } in trials::all() {
-        let judge = |printed: &str| by_model(&sheet, false, printed).map_err(|fault| format!("{name}: {fault}"));
-        enter(program, &sheet, judge, &mut tally);
+        let drawn = Drawn { sheet, planned: false };
+        enter_by_model(subject, program, &format!("{name}: "), &drawn, &mut tally);
     }
-    for Trial { name, sheet, .. } in papers::trials() {
-        enter(program, &sheet, |printed| by_file(stored, &name, printed), &mut tally);
+    for (name, sheet) in (subject.stored.sheets)() {
+        let judge = |printed: &str| by_file(stored, subject.stored.file, &name, printed);
+        enter(subject, program, &sheet, judge, &mut tally);
     }
     tally.want_times(kinds::LEAST_PLANS, kinds::PLAN);
-    tally.want(kinds::all());
+    tally.want((subject.wanted)());
     tally
+}
+
+/// The subject that the arguments name, which they do no longer then.
+fn subject(args: &mut Vec<String>) -> Subject {
+    let Some(at) = args.iter().position(|arg| arg == "--by-trial") else {
+        return planner::SUBJECT;
+    };
+    args.remove(at);
+    by_trial::SUBJECT
+}
+
+fn act(action: Action) -> ExitCode {
+    let done = [planner::SUBJECT, by_trial::SUBJECT]
+        .map(|Subject { stored, .. }| action(stored.file, stored.text().as_bytes()));
+    if done == [true; 2] {
+        return ExitCode::SUCCESS;
+    }
+    ExitCode::FAILURE
 }
 
 fn main() -> ExitCode {
     let mut args: Vec<String> = env::args().skip(1).collect();
     if let Some(action) = files::action(args.first()) {
-        return if action(FILE, file().as_bytes()) { ExitCode::SUCCESS } else { ExitCode::FAILURE };
+        return act(action);
     }
+    let subject = subject(&mut args);
     let (Some(path), Some(order)) = (args.pop(), Order::of(args)) else {
         eprintln!("{USAGE}");
         return ExitCode::from(2);
     };
-    let stored = match fs::read_to_string(files::path(FILE)) {
+    let file = subject.stored.file;
+    let stored = match fs::read_to_string(files::path(file)) {
         Ok(stored) => stored,
         Err(error) => {
-            eprintln!("{FILE}: {error}");
+            eprintln!("{file}: {error}");
             return ExitCode::FAILURE;
         }
     };
     println!("seed {}", order.seed);
-    run(&order, &Program { path }, &stored).end()
+    run(&order, &subject, &Program { path }, &stored).end()
+}
+
+#[cfg(test)]
+mod tests {
+    use super::*;
+    use model::builder::{last_alone, lay};
+    use model::job::{MOST_PEOPLE, MOST_STEPS};
+
+    #[test]
+    fn a_sheet_that_is_not_run_is_a_failure() {
+        let drawn = Drawn { sheet: lay(&last_alone(MOST_PEOPLE, MOST_STEPS)).bytes, planned: true };
+        let mut tally = Tally::new("not-run", 1);
+        enter_by_model(&by_trial::SUBJECT, &Program { path: String::new() }, "", &drawn, &mut tally);
+        assert_eq!((tally.passed, tally.failed), (0, 1));
+    }
 }

@@ -1,4 +1,4 @@
-//! The planning program, started once for each sheet.
+//! A program, started once for each sheet.
 
 use std::io::{Error, Write};
 use std::process::{Command, Output, Stdio};

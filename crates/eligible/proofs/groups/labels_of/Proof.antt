@@ -5,8 +5,9 @@ use native.Mathlib.Omega.{arith}
 use borrow.Author.Needs.{needs}
 use Rattle.bits.specs.Set.{Added}
 use Rattle.pattern.specs.Tables.{labelIn}
-use Rattle.eligible.specs.Labels.{SmallLabels, LabelsOf}
-use Rattle.eligible.proofs.Labels.{Part, passed, passed-none, passed-all, passed-adds, part-rest, turn-below, labels-none, labels-cong, labels-more}
+use Rattle.workflow.specs.Labels.{LabelsOf}
+use Rattle.eligible.specs.Labels.{SmallLabels}
+use Rattle.workflow.proofs.Labels.{Part, passed, passed-none, passed-all, passed-adds, part-rest, turn-below, labels-none, labels-cong, labels-more}
 use Rattle.eligible.proofs.groups.labels_of.Statement.{statement}
 use Rattle.eligible.proofs.groups.labels_of.Tie as tie
 

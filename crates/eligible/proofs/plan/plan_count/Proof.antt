@@ -3,7 +3,7 @@ use mathlib.Core.Path.{sym, subst}
 use borrow.Author.Needs.{needs}
 use Rattle.pattern.specs.Rule.{scopeIn}
 use Rattle.eligible.specs.Classes.{OneLevel}
-use Rattle.eligible.proofs.Labels.{turn-below}
+use Rattle.workflow.proofs.Labels.{turn-below}
 use Rattle.eligible.proofs.Planned.{Walked, walked-none, walked-more, walked-all}
 use Rattle.eligible.proofs.plan.plan_count.Statement.{statement}
 use Rattle.eligible.proofs.plan.plan_count.Tie as tie

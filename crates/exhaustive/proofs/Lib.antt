@@ -1,0 +1,4 @@
+pub mod Order
+pub mod Next
+pub mod Validity
+pub mod Trying

@@ -1,0 +1,83 @@
+-- A plan is valid exactly where no step is denied and no rule is broken. Assumes nothing.
+use mathlib.Core.Bool.{Bool, not}
+use mathlib.Core.Path.{_≡_, sym, _∙_}
+use Prim.Native.Nat.{ℕ, zero, suc, _<_, _≤_}
+use native.Mathlib.Omega.{arith}
+use lib.Dec.{eqb, leb}
+use borrow.Author.Tests.{eqb-true, eqb-false, leb-true, leb-false, not-true, not-false}
+use Rattle.bits.specs.Says.{Says}
+use Rattle.bits.proofs.Below.{by-cases, true-false, first-le, first-has, first-none}
+use Rattle.bits.proofs.Says.{says-of, says-true, says-false}
+use Rattle.workflow.specs.Problem.{Job, Kind, May, Plan, OfPeople, Asks, Valid, classCount, met, ruleOf}
+use Rattle.workflow.specs.Numbered.{kindIn}
+use Rattle.exhaustive.specs.Trial.{deniedIn, brokenIn}
+use Rattle.workflow.proofs.Rules.{met-asks}
+use Rattle.workflow.proofs.Valid.{met-sound, met-complete}
+
+-- ---- a count against a rule's kind and limit
+
+says-eq : (a b : ℕ) → Says (eqb a b) (a ≡ b)
+says-eq a b = says-of _ _ (eqb-true a b) (eqb-false a b)
+
+says-le : (a b : ℕ) → Says (leb a b) (a ≤ b)
+says-le a b = says-of _ _ (leb-true a b) (λ f l. omega (arith, leb-false a b f))
+
+module _ (limit count : ℕ) where
+  pub asks-one : (kind : ℕ) → kind ≤ 1 → Says (eqb count 1) (Asks (kindIn kind) limit count)
+  asks-one zero l = says-eq count 1
+  asks-one (suc zero) l = says-eq count 1
+  asks-one (suc (suc n)) l = absurd (omega arith)
+
+  pub asks-two : (kind : ℕ) → kind ≡ 2 → Says (eqb count 2) (Asks (kindIn kind) limit count)
+  asks-two kind e = rw e (says-eq count 2)
+
+  pub asks-most : (kind : ℕ) → kind ≡ 3 → Says (leb count limit) (Asks (kindIn kind) limit count)
+  asks-most kind e = rw e (says-le count limit)
+
+  pub asks-least : (kind : ℕ) → 4 ≤ kind → Says (leb limit count) (Asks (kindIn kind) limit count)
+  asks-least zero l = absurd (omega arith)
+  asks-least (suc zero) l = absurd (omega arith)
+  asks-least (suc (suc zero)) l = absurd (omega arith)
+  asks-least (suc (suc (suc zero))) l = absurd (omega arith)
+  asks-least (suc (suc (suc (suc n)))) l = says-le limit count
+
+-- what was said of a rule's count is whether the plan meets the rule
+pub said-met : (j : Job) (kind : Kind) (level limit : ℕ) (scope : ℕ → Bool) (π : Plan) (count : ℕ) (b : Bool)
+    → count ≡ classCount j (ruleOf (j .steps) kind level limit scope) π → Says b (Asks kind limit count) → b ≡ met j (ruleOf (j .steps) kind level limit scope) π
+said-met j kind level limit scope π count b e said =
+    by-cases (met j (ruleOf (j .steps) kind level limit scope) π)
+    (λ t. by-cases b (λ u. u ∙ sym t)
+    (λ u. absurd (says-false b _ said u (rw e (met-asks j level limit scope π kind .0 (met-sound j _ π t))))))
+    (λ t. by-cases b
+    (λ u. true-false (met-complete j _ π (met-asks j level limit scope π kind .1 (let a = says-true b _ said u in rw (sym e) a))) t)
+    (λ u. u ∙ sym t))
+
+-- ---- the first step denied, and the first rule broken
+
+module _ (j : Job) (may : May) (π : Plan) where
+  abbrev deniedAt : ℕ → Bool
+  deniedAt s = not (may s (π s))
+
+  abbrev brokenAt : ℕ → Bool
+  brokenAt i = not (met j (j .rule i) π)
+
+  pub denied-not-valid : deniedIn (j .steps) may π < j .steps → Valid j may π → ⊥
+  denied-not-valid l v = true-false (v .authorised (deniedIn (j .steps) may π) l) (not-true _ (first-has (j .steps) deniedAt l))
+
+  broken-not-valid : brokenIn j π < j .rules → Valid j may π → ⊥
+  broken-not-valid l v = true-false (met-complete j _ π (v .eligible (brokenIn j π) l)) (not-true _ (first-has (j .rules) brokenAt l))
+
+  pub none-valid : OfPeople j π → j .steps ≤ deniedIn (j .steps) may π → j .rules ≤ brokenIn j π → Valid j may π
+  none-valid within a b =
+      record {
+        within = within;
+        authorised = λ s l. not-false _ (first-none (j .steps) deniedAt s (omega arith));
+        eligible = λ i l. met-sound j _ π (not-false _ (first-none (j .rules) brokenAt i (omega arith)));
+      }
+
+  pub says-valid : OfPeople j π → (broken : ℕ) → j .steps ≤ deniedIn (j .steps) may π → broken ≡ brokenIn j π
+      → Says (eqb broken (j .rules)) (Valid j may π)
+  says-valid within broken a e =
+      says-of _ _ (λ t. let d = eqb-true broken (j .rules) t in none-valid within a (omega (arith, d, e)))
+      (λ t v. let d = eqb-false broken (j .rules) t in
+      broken-not-valid (omega (arith, d, e, first-le (j .rules) brokenAt)) v)

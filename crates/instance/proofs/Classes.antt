@@ -1,0 +1,63 @@
+-- Classes by level; and labels for the classes of steps, a class having the first step that has it. Assumes nothing.
+use mathlib.Core.Bool.{Bool}
+use mathlib.Core.List.{List}
+use mathlib.Core.Path.{_≡_, refl, sym, subst, ap, _∙_}
+use Prim.Native.Nat.{ℕ, zero, suc, _<_, _≤_}
+use native.Mathlib.Omega.{arith}
+use lib.Dec.{eqb}
+use lib.ListN.{getD}
+use borrow.Author.Tests.{eqb-true, eqb-false, eq-eqb}
+use Rattle.bits.specs.Below.{first}
+use Rattle.bits.proofs.Below.{by-cases, true-false, first-le, first-has, first-none}
+use Rattle.workflow.specs.Problem.{distinct}
+use Rattle.workflow.proofs.Counts.{distinct-alike}
+use Rattle.instance.specs.Instance.{classAt}
+
+-- level 1 is the shop, level 2 the bench
+pub class-shop : (shop bench : List ℕ) (level p : ℕ) → level ≡ 1 → getD shop p 0 ≡ classAt shop bench level p
+class-shop shop bench level p e = rw e
+
+pub class-bench : (shop bench : List ℕ) (level p : ℕ) → level ≡ 2 → getD bench p 0 ≡ classAt shop bench level p
+class-bench shop bench level p e = rw e
+
+-- from level 3 on, and at 0, each person is a class
+pub class-person : (shop bench : List ℕ) (level p : ℕ) → (level ≡ 1 → ⊥) → (level ≡ 2 → ⊥) → p ≡ classAt shop bench level p
+class-person shop bench zero p a b = refl
+class-person shop bench (suc zero) p a b = absurd (a refl)
+class-person shop bench (suc (suc zero)) p a b = absurd (b refl)
+class-person shop bench (suc (suc (suc q))) p a b = refl
+
+-- the first step that has the class of step s
+abbrev pub firstAlike : (ℕ → ℕ) → ℕ → ℕ
+firstAlike c s = first s (λ t. eqb (c t) (c s))
+
+module _ (c : ℕ → ℕ) where
+  pub alike-le : (s r : ℕ) → r ≡ firstAlike c s → r ≤ s
+  alike-le s r e = subst (λ (x : ℕ). x ≤ s) (sym e) (first-le s (λ t. eqb (c t) (c s)))
+
+  -- it has the class
+  alike-class : (s : ℕ) → c (firstAlike c s) ≡ c s
+  alike-class s =
+      by-cases (eqb (firstAlike c s) s)
+      (λ h. subst (λ (x : ℕ). c x ≡ c s) (sym (eqb-true (firstAlike c s) s h)) refl)
+      (λ h. let d = eqb-false (firstAlike c s) s h in let l = first-le s (λ t. eqb (c t) (c s)) in
+      eqb-true _ _ (first-has s (λ t. eqb (c t) (c s)) (omega (arith, d, l))))
+
+  -- no step before it has
+  alike-none : (s t : ℕ) → t < firstAlike c s → c t ≡ c s → ⊥
+  alike-none s t l e = true-false (eq-eqb _ _ e) (first-none s (λ t. eqb (c t) (c s)) t l)
+
+  -- steps of one class have one label
+  alike-same : (s t : ℕ) → c s ≡ c t → firstAlike c s ≡ firstAlike c t
+  alike-same s t e =
+      let a = alike-class s in let b = alike-class t in
+      let x : firstAlike c s < firstAlike c t → ⊥ = λ l. alike-none t (firstAlike c s) l (a ∙ e) in
+      let y : firstAlike c t < firstAlike c s → ⊥ = λ l. alike-none s (firstAlike c t) l (b ∙ sym e) in
+      omega arith
+
+  -- and steps of one label have one class
+  alike-tells : (s t : ℕ) → firstAlike c s ≡ firstAlike c t → c s ≡ c t
+  alike-tells s t e = sym (alike-class s) ∙ ap c e ∙ alike-class t
+
+  pub alike-distinct : (n : ℕ) (S : ℕ → Bool) → distinct n S (firstAlike c) ≡ distinct n S c
+  alike-distinct n S = distinct-alike n S _ _ (record { forth = λ s t a b h k e. alike-tells s t e; back = λ s t a b h k e. alike-same s t e })

@@ -1,0 +1,83 @@
+-- `instance::counts::rule_counts` meets its contract: the rules passed have their counts. Assumes nothing.
+use mathlib.Core.Path.{_≡_, subst}
+use Prim.Native.Nat.{ℕ, _-_, _≤_, _<_}
+use native.Mathlib.Omega.{arith}
+use borrow.Author.Needs.{needs}
+use Rattle.workflow.specs.First.{planOf}
+use Rattle.instance.specs.Instance.{instanceOf}
+use Rattle.instance.specs.Counts.{Columns, CountsOf, ForInstances}
+use Rattle.instance.proofs.Counted.{counts-none, counts-more}
+use Rattle.instance.proofs.counts.rule_counts.Statement.{statement}
+use Rattle.instance.proofs.counts.rule_counts.Tie as tie
+
+abbrev Inv-loop : tie.InvT-loop
+Inv-loop rules plan job level scope counts₀ i₀ counts i = (i ≤ rules) × ForInstances rules job (λ j. CountsOf j (planOf plan) i counts)
+
+abbrev μ-loop : tie.MeasureT-loop
+μ-loop rules plan job level scope counts₀ i₀ counts i = rules - i
+
+loop-holds : tie.Need-loop-holds Inv-loop μ-loop
+loop-holds c = (omega arith, λ people steps w. counts-none _ _)
+
+-- from the loop back to the beginning
+abbrev start : tie.At-loop Inv-loop μ-loop → tie.Start Inv-loop μ-loop
+start c = c .before .before .before
+
+-- the arrays have their sizes
+columns : (c : tie.Start Inv-loop μ-loop) → Columns (c .args .t1 .shop) (c .args .t1 .bench) (c .args .plan .now)
+columns c = record { shops = search needs; benches = search needs; sized = c .pre .sized }
+
+-- the rule of a turn is one of the sheet's
+below : (c : tie.In-loop Inv-loop μ-loop) → c .before .loop .i < 64
+below c = omega (arith, start (c .before) .pre .few, c .loop-test .taken)
+
+array-read-rule-count : tie.Need-array-read-rule-count Inv-loop μ-loop
+array-read-rule-count c = below (c .before .before .before)
+
+mul-rule-count : tie.Need-mul-rule-count Inv-loop μ-loop
+mul-rule-count c = omega (arith, below (c .before .before .before))
+
+array-read-rule-count-2 : tie.Need-array-read-rule-count-2 Inv-loop μ-loop
+array-read-rule-count-2 c = below (c .before .before .before)
+
+rule-count-requires : tie.Need-rule-count-requires Inv-loop μ-loop
+rule-count-requires c κs =
+    let t = c .before .before .before in
+    let s = start (t .before) in (
+      columns s,
+      s .pre .scoped (t .before .loop .i) (t .loop-test .taken),
+      λ u h. s .pre .staffed (t .before .loop .i) u (t .loop-test .taken) h,
+    )
+
+cast-counts : tie.Need-cast-counts Inv-loop μ-loop
+cast-counts c = omega (arith, c .rule-count .ensures .0)
+
+array-write-counts : tie.Need-array-write-counts Inv-loop μ-loop
+array-write-counts c = below (c .before .before .before .before)
+
+add-i : tie.Need-add-i Inv-loop μ-loop
+add-i c = omega (arith, below (c .before .before .before .before))
+
+loop-less : tie.Need-loop-less Inv-loop μ-loop
+loop-less c = omega (arith, c .before .before .before .before .loop-test .taken)
+
+loop-again : tie.Need-loop-again Inv-loop μ-loop
+loop-again c =
+    let t = c .before .before .before .before in
+    let l = t .before .loop in (
+      omega (arith, t .loop-test .taken),
+      λ people steps w. counts-more _ _ (l .inv .1 people steps w) (below t) (c .rule-count .ensures .1 steps (w (l .i) (t .loop-test .taken))),
+    )
+
+returns : tie.Need-returns Inv-loop μ-loop
+returns c people steps w =
+    let l = c .before in
+    let e : l .loop .i ≡ start l .args .rules = omega (arith, c .loop-test .left, l .loop .inv .0) in
+    let s = start l .args in
+    subst (λ (n : ℕ). CountsOf (instanceOf people steps (s .rules) (s .t1)) (planOf (s .plan .now)) n (l .loop .counts)) e (l .loop .inv .1 people steps w)
+
+pub rule-counts-spec : {M : Type 1} → statement M
+rule-counts-spec =
+    tie.close
+    (tie.spec Inv-loop μ-loop loop-holds array-read-rule-count mul-rule-count array-read-rule-count-2 rule-count-requires cast-counts
+    array-write-counts add-i loop-less loop-again returns)

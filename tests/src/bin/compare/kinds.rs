@@ -1,0 +1,140 @@
+//! How a call has ended. A run in which one of these was never met has failed.
+
+use model::answers::{Answer, Call, MOST_CAP, STEP_BYTES};
+use model::job::{Job, MOST_PEOPLE, MOST_RULES, MOST_STEPS};
+use model::plans::plans;
+use model::reader::read;
+use model::refusal::{Refusal, BAD_LENGTH, CAP_TOO_HIGH, NO_PLAN, SHORT_ANSWER};
+use model::trial::SHOWN;
+
+const CREWS: [Call; 2] = [Call::Crew, Call::CrewByTrial];
+
+/// Where the crew stands among the plans of its job.
+const ONLY: &str = "the only plan";
+const FIRST: &str = "the first plan";
+const LATER: &str = "a later plan";
+const LAST: &str = "the last plan";
+
+/// What a job has much of. Each end of a crew call is wanted with each of these.
+const MUCH: [(&str, fn(&Job) -> bool); 4] = [
+    ("64 people", |job| job.people.len() == MOST_PEOPLE && job.steps.len() > 1),
+    ("12 steps", |job| job.steps.len() == MOST_STEPS && job.people.len() > 1),
+    ("64 rules", |job| job.rules.len() == MOST_RULES),
+    ("more than 1,000 plans", |job| plans(job) > SHOWN),
+];
+
+fn spare(count: u32, cap: u32) -> String {
+    format!("{count} of {cap}")
+}
+
+fn refusal(number: u32) -> String {
+    format!("refusal {number:2}")
+}
+
+fn with_much(much: &str, end: &str) -> String {
+    format!("{much}, {end}")
+}
+
+/// The place of the crew in the area.
+fn place(job: &Job, area: &[u8]) -> &'static str {
+    let crew = || area.chunks_exact(STEP_BYTES).take(job.steps.len());
+    let all_by = |person: usize| crew().all(|pair| pair[4..] == job.people[person].tag.to_le_bytes());
+    match (all_by(0), all_by(job.people.len() - 1)) {
+        (true, true) => ONLY,
+        (true, false) => FIRST,
+        (false, true) => LAST,
+        (false, false) => LATER,
+    }
+}
+
+/// The ends of a crew call that has found a plan, or none after all were tried.
+fn of_crew(job: &Job, answer: &Answer) -> Vec<String> {
+    let end = match answer.number {
+        0 => place(job, &answer.area).to_string(),
+        _ => refusal(NO_PLAN),
+    };
+    let much = MUCH.iter().filter(|(_, has)| has(job)).map(|(much, _)| with_much(much, &end));
+    much.chain([end.clone()]).collect()
+}
+
+fn ends(call: Call, sheet: &[u8], answer: &Answer) -> Vec<String> {
+    match (call, Refusal::of(answer.number)) {
+        (Call::Spare { cap }, None) => vec![spare(answer.area[0].into(), cap)],
+        (Call::Spare { .. }, Some(known)) => vec![refusal(known.number)],
+        (_, Some(known)) if known.number != NO_PLAN => vec![refusal(known.number)],
+        _ => of_crew(&read(sheet).expect("a job was planned"), answer),
+    }
+}
+
+fn of_call(call: Call, ends: Vec<String>) -> impl Iterator<Item = String> {
+    ends.into_iter().map(move |end| format!("{}, {end}", call.name()))
+}
+
+/// The kinds of an answer that is the model's.
+pub fn of(call: Call, sheet: &[u8], answer: &Answer) -> Vec<String> {
+    of_call(call, ends(call, sheet, answer)).collect()
+}
+
+/// Every kind: each refusal of each call, the short area among them, every spare count, and crews by their place and by the size
+/// of their job.
+pub fn all() -> Vec<String> {
+    let refusals = |more: &[u32]| [more, &Vec::from_iter(BAD_LENGTH..=NO_PLAN)].concat().into_iter().map(refusal);
+    let tried = [FIRST.to_string(), LATER.to_string(), LAST.to_string(), refusal(NO_PLAN)];
+    let mut crews: Vec<String> = refusals(&[SHORT_ANSWER]).collect();
+    crews.extend([ONLY, FIRST, LATER, LAST].map(String::from));
+    crews.extend(tried.iter().flat_map(|end| MUCH.map(|(much, _)| with_much(much, end))));
+    let mut spares: Vec<String> = refusals(&[SHORT_ANSWER, CAP_TOO_HIGH]).collect();
+    spares.extend((0..=MOST_CAP).flat_map(|cap| (0..=cap).map(move |count| spare(count, cap))));
+    let kinds = CREWS.into_iter().flat_map(|call| of_call(call, crews.clone()));
+    kinds.chain(of_call(Call::Spare { cap: 0 }, spares)).collect()
+}
+
+#[cfg(test)]
+mod tests {
+    use super::*;
+    use model::answers::answer;
+    use model::builder::{last_alone, lay, plain, sheet_w, w_and, Draft};
+    use std::collections::BTreeSet;
+
+    fn kinds(call: Call, sheet: &Draft, room: usize) -> Vec<String> {
+        of(call, &sheet.bytes, &answer(call, &sheet.bytes, &vec![0; room]).expect("a small job"))
+    }
+
+    #[test]
+    fn an_answer_has_the_kind_of_its_call_and_its_end() {
+        let (w, none) = (sheet_w(), w_and(3, 3, 1, 7));
+        assert_eq!(kinds(Call::Crew, &w, 24), ["crew, a later plan"]);
+        assert_eq!(kinds(Call::CrewByTrial, &w, 24), ["crew by trial, a later plan"]);
+        assert_eq!(kinds(Call::CrewByTrial, &w, 23), ["crew by trial, refusal  1"]);
+        assert_eq!(kinds(Call::CrewByTrial, &none, 24), ["crew by trial, refusal 13"]);
+        assert_eq!(kinds(Call::Spare { cap: 2 }, &w, 16), ["spare, 1 of 2"]);
+        assert_eq!(kinds(Call::Spare { cap: 2 }, &none, 16), ["spare, refusal 13"]);
+        assert_eq!(kinds(Call::Spare { cap: 4 }, &w, 16), ["spare, refusal  2"]);
+    }
+
+    #[test]
+    fn a_crew_has_its_place_and_what_its_job_has_much_of() {
+        let crew = |sheet: Draft| kinds(Call::Crew, &sheet, 100);
+        assert_eq!(crew(plain(1, 2, 64)), ["crew, 64 rules, the only plan", "crew, the only plan"]);
+        assert_eq!(crew(plain(64, 1, 0)), ["crew, the first plan"]);
+        assert_eq!(
+            crew(lay(&last_alone(64, 2))),
+            ["crew, 64 people, the last plan", "crew, more than 1,000 plans, the last plan", "crew, the last plan"]
+        );
+        assert_eq!(
+            crew(plain(2, 12, 0)),
+            ["crew, 12 steps, the first plan", "crew, more than 1,000 plans, the first plan", "crew, the first plan"]
+        );
+    }
+
+    #[test]
+    fn what_is_wanted_is_different_and_what_answers_show() {
+        let wanted: BTreeSet<String> = all().into_iter().collect();
+        assert_eq!(wanted.len(), all().len());
+        for call in [Call::Crew, Call::CrewByTrial, Call::Spare { cap: 2 }] {
+            for sheet in [sheet_w(), Draft::of(vec![]), lay(&last_alone(2, 12)), w_and(3, 3, 1, 7)] {
+                assert!(kinds(call, &sheet, 100).iter().all(|kind| wanted.contains(kind)));
+            }
+        }
+    }
+}

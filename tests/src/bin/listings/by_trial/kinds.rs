@@ -1,0 +1,176 @@
+//! What a listing shows. A run in which one of these was never met has failed.
+
+use crate::kinds::{lines, of_plan, refusal, PLAN, RULES};
+use model::job::{Job, AT_LEAST, BY_PERSON, BY_SHOP, MOST_RULES, SAME};
+use model::plans::plans;
+use model::reader::read;
+use model::refusal::{BAD_LENGTH, LOOSE_CARD};
+use model::trial::{plan_at, verdict, Verdict, SHOWN};
+use std::collections::BTreeSet;
+
+/// The next number of plans that a sheet can have.
+pub const NOT_SHOWN: u128 = 1_024;
+
+const NONE_VALID: &str = "no plan";
+
+/// A right listing that a program without its last TRY line cannot print.
+const TRIALS: &str = "a TRY line";
+
+const DENIED_FIRST: &str = "a TRY line, DENIED the first step";
+const DENIED_LATER: &str = "a TRY line, DENIED a later step";
+const DENIED_LAST: &str = "a TRY line, DENIED the last step";
+const BREAKS_FIRST: &str = "a TRY line, BREAKS 1";
+const BREAKS_LATER: &str = "a TRY line, BREAKS a later rule";
+const BREAKS_LAST: &str = "a TRY line, BREAKS 64";
+const VALID_FIRST: &str = "a TRY line, VALID at the first plan";
+const VALID_LATER: &str = "a TRY line, VALID at a later plan";
+const VALID_LAST: &str = "a TRY line, VALID at the last plan";
+const CARRY: &str = "a TRY line after a carry over all steps but the first";
+
+const LONG: &str = "TRIED more than two bytes can count";
+
+fn breaks(kind: u8, level: u8) -> String {
+    format!("a TRY line, BREAKS a rule of kind {kind} and level {level}")
+}
+
+fn just(plans: u128, end: &str) -> String {
+    format!("{plans} plans, {end}")
+}
+
+/// Every kind but the plan, which is wanted more than once, and the TRY line, whose kinds are wanted.
+pub fn all() -> Vec<String> {
+    let mut kinds = RULES.map(String::from).to_vec();
+    kinds.extend([DENIED_FIRST, DENIED_LATER, DENIED_LAST].map(String::from));
+    kinds.extend([BREAKS_FIRST, BREAKS_LATER, BREAKS_LAST].map(String::from));
+    kinds.extend([VALID_FIRST, VALID_LATER, VALID_LAST].map(String::from));
+    kinds.extend([NONE_VALID, CARRY, LONG].map(String::from));
+    kinds.extend((SAME..=AT_LEAST).flat_map(|kind| (BY_SHOP..=BY_PERSON).map(move |level| breaks(kind, level))));
+    kinds.extend([PLAN, NONE_VALID].into_iter().flat_map(|end| [SHOWN, NOT_SHOWN].map(|plans| just(plans, end))));
+    kinds.extend((BAD_LENGTH..=LOOSE_CARD).map(refusal));
+    kinds
+}
+
+/// The kinds of the TRY line at a place, from 0 on.
+fn of_trial(job: &Job, place: u128) -> Vec<String> {
+    match verdict(job, &plan_at(job, place)) {
+        Verdict::Denied { step: 0 } => vec![DENIED_FIRST.to_string()],
+        Verdict::Denied { step } if step + 1 == job.steps.len() => vec![DENIED_LAST.to_string()],
+        Verdict::Denied { .. } => vec![DENIED_LATER.to_string()],
+        Verdict::Breaks { rule } => {
+            let broken = &job.rules[rule];
+            let at = match rule + 1 {
+                1 => BREAKS_FIRST,
+                MOST_RULES => BREAKS_LAST,
+                _ => BREAKS_LATER,
+            };
+            vec![at.to_string(), breaks(broken.kind, broken.level)]
+        }
+        Verdict::Valid if place == 0 => vec![VALID_FIRST.to_string()],
+        Verdict::Valid if place + 1 == plans(job) => vec![VALID_LAST.to_string()],
+        Verdict::Valid => vec![VALID_LATER.to_string()],
+    }
+}
+
+/// The kinds of all TRY lines, each once.
+fn of_shown(job: &Job, shown: u128) -> BTreeSet<String> {
+    let mut kinds: BTreeSet<String> = (0..shown).flat_map(|place| of_trial(job, place)).collect();
+    // So many plans have the same person at the first step; the next begins with all others anew.
+    let alike = plans(job) / job.people.len() as u128;
+    if job.steps.len() > 2 && alike > 1 && shown > alike {
+        kinds.insert(CARRY.to_string());
+    }
+    kinds
+}
+
+fn tried(listing: &str) -> u128 {
+    let figure = lines(listing, "TRIED").next().and_then(|line| line.split(' ').nth(1));
+    figure.and_then(|figure| figure.parse().ok()).expect("the sheet was read")
+}
+
+/// The kinds of a listing that is the model's.
+pub fn of(sheet: &[u8], listing: &str) -> Vec<String> {
+    let job = match read(sheet) {
+        Err(refused) => return vec![refusal(refused.number)],
+        Ok(job) => job,
+    };
+    let ends = match lines(listing, "PLAN").next() {
+        Some(_) => of_plan(listing),
+        None => vec![NONE_VALID.to_string()],
+    };
+    let mut kinds: Vec<String> = of_shown(&job, lines(listing, "TRY").count() as u128).into_iter().collect();
+    if [SHOWN, NOT_SHOWN].contains(&plans(&job)) {
+        kinds.push(just(plans(&job), &ends[0]));
+    }
+    if tried(listing) > u16::MAX.into() {
+        kinds.push(LONG.to_string());
+    }
+    kinds.extend(ends);
+    kinds
+}
+
+/// The kind of a right listing that has a TRY line.
+pub fn of_trials(listing: &str) -> Option<String> {
+    lines(listing, "TRY").next().map(|_| TRIALS.to_string())
+}
+
+#[cfg(test)]
+mod tests {
+    use super::*;
+    use model::builder::{last_alone, lay, one_by_one, plain, plain_job, rule, sheet_w, w_and, Draft};
+    use model::job::{AT_MOST, DIFFERENT};
+    use model::trial::listing;
+
+    fn listed(sheet: &Draft) -> String {
+        listing(&sheet.bytes).expect("few plans are tried")
+    }
+
+    fn kinds(sheet: Draft) -> Vec<String> {
+        of(&sheet.bytes, &listed(&sheet))
+    }
+
+    /// The 64th rule alone can be broken.
+    fn by_the_last_rule() -> Draft {
+        let mut rules = vec![rule(AT_MOST, BY_PERSON, 2, 3); MOST_RULES - 1];
+        rules.push(rule(DIFFERENT, BY_SHOP, 0, 3));
+        lay(&Job { rules, ..plain_job(2, 2, 0) })
+    }
+
+    #[test]
+    fn a_listing_has_the_kinds_of_its_trials_and_its_end() {
+        assert_eq!(kinds(sheet_w()), [BREAKS_LATER, &breaks(2, 3), VALID_LATER, "a plan"]);
+        let mut none = vec![CARRY.to_string(), BREAKS_LATER.to_string()];
+        none.extend([(1, 1), (2, 3), (3, 3)].map(|(kind, level)| breaks(kind, level)));
+        none.extend([DENIED_LATER, DENIED_FIRST, "no plan"].map(String::from));
+        assert_eq!(kinds(w_and(3, 3, 1, 7)), none);
+        assert_eq!(kinds(one_by_one(1)), [VALID_FIRST, "a plan", "a plan, no RULE line"]);
+        assert_eq!(kinds(plain(2, 2, 64)), [VALID_FIRST, "a plan", "a plan, 64 RULE lines"]);
+        assert_eq!(kinds(by_the_last_rule()), [BREAKS_LAST, &breaks(2, 1), "no plan"]);
+        assert_eq!(
+            kinds(lay(&last_alone(2, 3))),
+            [CARRY, DENIED_LATER, DENIED_FIRST, DENIED_LAST, VALID_LAST, "a plan", "a plan, no RULE line"]
+        );
+        assert_eq!(kinds(plain(10, 3, 1)), [VALID_FIRST, "1000 plans, a plan", "a plan"]);
+        assert_eq!(kinds(plain(4, 5, 1)), ["1024 plans, a plan", "a plan"]);
+        assert_eq!(kinds(plain(5, 5, 1)), ["a plan"]);
+        assert_eq!(kinds(lay(&last_alone(17, 4))), [LONG, "a plan", "a plan, no RULE line"]);
+        assert_eq!(kinds(plain(1, 2, 65)), ["refusal  9"]);
+    }
+
+    #[test]
+    fn a_trial_is_lost_where_there_is_one() {
+        assert_eq!(of_trials(&listed(&sheet_w())).as_deref(), Some("a TRY line"));
+        assert_eq!(of_trials(&listed(&plain(4, 5, 0))), None);
+        assert_eq!(of_trials(&listed(&plain(1, 2, 65))), None);
+    }
+
+    #[test]
+    fn what_is_wanted_is_what_listings_show() {
+        let wanted = all();
+        let sheets =
+            [sheet_w(), w_and(3, 3, 1, 7), one_by_one(1), by_the_last_rule(), plain(10, 3, 0), plain(4, 5, 64)];
+        for sheet in sheets.into_iter().chain([lay(&last_alone(2, 3)), lay(&last_alone(17, 4)), sheet_w().cut(24)]) {
+            let shown = kinds(sheet);
+            assert!(shown.iter().filter(|kind| *kind != PLAN).all(|kind| wanted.contains(kind)), "{shown:?}");
+        }
+    }
+}
