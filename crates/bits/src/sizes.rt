@@ -44,11 +44,14 @@ pub const CLASS_ENTRIES: usize = MOST_LEVELS * MOST_PEOPLE;
 // An entry for each step at each level, at `(level - 1) * MOST_STEPS + step`.
 pub const LABEL_ENTRIES: usize = MOST_LEVELS * MOST_STEPS;
 
-// The name of each person's class: its first person.
+// The number of each person's class: from 0 by first use in crew order.
 pub type Classes = [u8; CLASS_ENTRIES];
 
 // The people of each person's class.
 pub type Crowds = [u64; CLASS_ENTRIES];
+
+// What lies inside each class, at `(level - 1) * MOST_PEOPLE + number`.
+pub type Nest = [u64; CLASS_ENTRIES];
 
 // Each rule as one number.
 pub type Rules = [u32; MOST_RULES];
@@ -62,7 +65,7 @@ pub type Naming = [u64; MOST_STEPS];
 // The label of each step's group.
 pub type Labels = [u8; LABEL_ENTRIES];
 
-// The classes with somebody for each step, by name.
+// The classes with somebody for each step, by number.
 pub type Reach = [u64; LABEL_ENTRIES];
 
 // The weight of each step.

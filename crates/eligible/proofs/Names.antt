@@ -10,7 +10,7 @@ use Rattle.bits.specs.Set.{Lowest}
 use Rattle.bits.proofs.Below.{true-false, first-unique}
 use Rattle.bits.proofs.Counting.{is-false}
 use Rattle.bits.proofs.SetLaws.{zero-empty}
-use Rattle.pattern.specs.Realize.{nameOf}
+use Rattle.pattern.specs.Number.{firstUse}
 use Rattle.pattern.specs.Rule.{levelIn}
 use Rattle.pattern.specs.declared.Size.{Size}
 use Rattle.pattern.specs.Given.{Given}
@@ -18,15 +18,15 @@ use Rattle.eligible.specs.Classes.{Crowd, OneLevel, Grouped, RuleAt}
 
 module _ (people : ℕ) (c : ℕ → ℕ) where
   -- the lowest of a class's people names it
-  pub lowest-name : {p mask m : ℕ} → Crowd people c p mask → Lowest mask m → m ≡ nameOf people c p
-  unfolding nameOf
+  pub lowest-name : {p mask m : ℕ} → Crowd people c p mask → Lowest mask m → m ≡ firstUse people c p
+  unfolding firstUse
   lowest-name {p} {mask} {m} w low =
       let o = w .only m (low .has) in
       sym (first-unique people (λ x. eqb (c x) (c p)) m (omega (arith, o .0)) (λ l. eq-eqb (c m) (c p) (o .1))
       (λ k l. is-false _ (λ t. true-false (w .has k (omega (arith, o .0)) (eqb-true (c k) (c p) t)) (low .before k l))))
 
   -- so it is where the mask of each class is known, and one of so many people has it
-  pub mask-name : Grouped people c → {p mask m : ℕ} → p < people → mask ≡ c (p % 64) → ((mask ≡ 0 → ⊥) → Lowest mask m) → m ≡ nameOf people c p
+  pub mask-name : Grouped people c → {p mask m : ℕ} → p < people → mask ≡ c (p % 64) → ((mask ≡ 0 → ⊥) → Lowest mask m) → m ≡ firstUse people c p
   mask-name g {p} {mask} {m} l its low =
       let small : p % 64 ≡ p = omega (arith, g .few) in
       let is : mask ≡ c p = its ∙ ap c small in

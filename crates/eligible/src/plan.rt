@@ -12,14 +12,14 @@ ghost use lib.ListN.{length};
 ghost use Rattle.workflow.specs.Problem.{OfPeople, classCount};
 ghost use Rattle.pattern.specs.Rule.{levelIn, scopeIn, unpacked};
 ghost use Rattle.pattern.specs.Tables.{planIn};
-ghost use Rattle.pattern.specs.Realize.{nameOf};
+ghost use Rattle.pattern.specs.Number.{firstUse};
 ghost use Rattle.eligible.specs.Classes.{OneLevel, ForClasses, ForJobs};
 
 // The label of the class of a step's person: the first of its people.
 fn label_of(crowd: &Crowds, level: usize, plan: &Plan, s: usize) -> usize
     requires { ⌜ OneLevel (now crowd) level × (length (now plan) ≡ 12) × (s < 12) ⌝ }
     ensures { λ r. ⌜ ForClasses (now (crowd .entry)) level
-        (λ people c. planIn (now (plan .entry)) s < people → r ≡ nameOf people c (planIn (now (plan .entry)) s)) × (r < 64) ⌝ }
+        (λ people c. planIn (now (plan .entry)) s < people → r ≡ firstUse people c (planIn (now (plan .entry)) s)) × (r < 64) ⌝ }
 {
     // The class of one of the people is not empty; what is given for anyone else says nothing.
     let class = mates(crowd, level, (plan[s] % 64) as usize);

@@ -1,138 +1,141 @@
--- The people of each class, gathered entry by entry, and then of each person's class. Assumes nothing.
+-- The people of each person's class, from those of each class. Assumes nothing.
 use mathlib.Core.Bool.{true}
 use mathlib.Core.List.{List}
 use mathlib.Core.Path.{_≡_, sym, subst, ap, _∙_}
-use Prim.Native.Nat.{ℕ, _+_, _*_, _-_, _%_, _≤_, _<_}
+use Prim.Native.Nat.{ℕ, suc, _+_, _*_, _-_, _%_, _≤_, _<_}
 use native.Mathlib.Omega.{arith}
 use native.Mathlib.Nat.{not-suc-le-zero}
 use lib.Dec.{eqb}
-use lib.ListN.{length, getD, set, replicate, length-set, length-replicate, getD-replicate}
+use lib.ListN.{length, getD, set, length-set}
 use lib.Seq.{getD-set-same, getD-set-other}
 use borrow.Author.Tests.{eqb-true, eqb-false}
 use Rattle.bits.specs.Word.{hasBit}
 use Rattle.bits.specs.Set.{Added}
-use Rattle.bits.proofs.Below.{by-cases, true-false}
-use Rattle.bits.proofs.SetLaws.{zero-empty, added-has, added-keeps, added-other}
-use Rattle.levels.specs.Tabled.{ByName, ByPerson, Gathered}
+use Rattle.bits.proofs.Below.{by-cases, below-suc, true-false}
+use Rattle.bits.proofs.SetLaws.{empty-lacks, added-has, added-other}
+use Rattle.pattern.specs.declared.Size.{Size}
+use Rattle.pattern.specs.Given.{Given, Numbers}
+use Rattle.pattern.specs.Tables.{classIn, numberIn}
+use Rattle.pattern.proofs.Classes.{numbered-forth, numbered-back, numbered-classed}
+use Rattle.pattern.specs.Nesting.{ByNumber}
+use Rattle.levels.specs.Tabled.{ByPerson, Gathered}
+use Rattle.levels.proofs.Nested.{entry}
 
--- where the class of entry x stands
-abbrev pub place : List ℕ → ℕ → ℕ
-place class x = x - x % 64 + getD class x 0 % 64
-
-pub named-all : (people levels : ℕ) (class : List ℕ) (x : ℕ) (crowd : List ℕ) → x ≤ levels * 64 → levels * 64 ≤ x → ByName people levels class x crowd
-    → ByName people levels class (levels * 64) crowd
-named-all people levels class x crowd l m w = let e : x ≡ levels * 64 = omega arith in subst (λ (y : ℕ). ByName people levels class y crowd) e w
-
-module _ (people levels : ℕ) (few : people ≤ 64) (deep : levels ≤ 3) (class : List ℕ) where
-  pub named-none : ByName people levels class 0 (replicate {A = ℕ} 192 0)
-  named-none =
-      record {
-        sized = length-replicate {A = ℕ} 192 0;
-        has = λ b p l m h. absurd (not-suc-le-zero h);
-        only = λ b v p l m h. true-false h (zero-empty (getD (replicate {A = ℕ} 192 0) (b * 64 + v) 0) (getD-replicate {A = ℕ} 192 (b * 64 + v) 0 0 (omega arith)) p);
-      }
-
-  module _ (x : ℕ) (crowd : List ℕ) (w : ByName people levels class x crowd) (below : x < levels * 64) where
-    -- an entry of nobody
-    pub named-skip : people ≤ x % 64 → ByName people levels class (x + 1) crowd
-    named-skip out =
-        record {
-          sized = w .sized;
-          has = λ b p l m h. w .has b p l m (let z : b * 64 + p ≡ x → ⊥ = λ e. omega arith in omega arith);
-          only = λ b v p l m h. let o = w .only b v p l m h in (o .0, omega (arith, o .1), o .2);
-        }
-
-    module _ (word : ℕ) (inside : x % 64 < people) (joined : Added (getD crowd (place class x) 0) (x % 64) word) where
-      fits : place class x < length crowd
-      fits = omega (arith, w .sized)
-
-      same : getD (set crowd (place class x) word) (place class x) 0 ≡ word
-      same = getD-set-same crowd (place class x) word 0 fits
-
-      keeps : (i p : ℕ) → hasBit (getD crowd i 0) p ≡ true → hasBit (getD (set crowd (place class x) word) i 0) p ≡ true
-      keeps i p h =
-          by-cases (eqb i (place class x))
-          (λ t. let e : i ≡ place class x = eqb-true i (place class x) t in
-          subst (λ (y : ℕ). hasBit (getD (set crowd (place class x) word) y 0) p ≡ true) (sym e)
-          (ap (λ (y : ℕ). hasBit y p) same ∙ added-keeps joined p (subst (λ (y : ℕ). hasBit (getD crowd y 0) p ≡ true) e h)))
-          (λ t. ap (λ (y : ℕ). hasBit y p) (getD-set-other crowd (place class x) i word 0 (eqb-false i (place class x) t)) ∙ h)
-
-      own : (b p : ℕ) → p < people → b * 64 + p ≡ x
-          → hasBit (getD (set crowd (place class x) word) (b * 64 + getD class (b * 64 + p) 0 % 64) 0) p ≡ true
-      own b p m e =
-          let d : b * 64 + getD class (b * 64 + p) 0 % 64 ≡ place class x
-          = ap (λ (y : ℕ). b * 64 + getD class y 0 % 64) e ∙ (let z : b * 64 ≡ x - x % 64 = omega arith in ap (λ (y : ℕ). y + getD class x 0 % 64) z)
-          in
-          let f : p ≡ x % 64 = omega arith in
-          subst (λ (y : ℕ). hasBit (getD (set crowd (place class x) word) y 0) p ≡ true) (sym d)
-          (subst (λ (y : ℕ). hasBit (getD (set crowd (place class x) word) (place class x) 0) y ≡ true) (sym f)
-          (ap (λ (y : ℕ). hasBit y (x % 64)) same ∙ added-has joined))
-
-      new : (b v p : ℕ) → b < levels → v < 64 → b * 64 + v ≡ place class x → p ≡ x % 64
-          → (p < people) × (b * 64 + p < x + 1) × (getD class (b * 64 + p) 0 % 64 ≡ v)
-      new b v p l m e f =
-          let k : ℕ = getD class x 0 % 64 in
-          let kl : getD class x 0 % 64 < 64 = omega arith in
-          let z : b * 64 + p ≡ x = omega arith in
-          (omega arith, omega arith, ap (λ (y : ℕ). getD class y 0 % 64) z ∙ (let u : getD class x 0 % 64 ≡ v = omega arith in u))
-
-      old : (b v p : ℕ) → b < levels → v < 64 → hasBit (getD crowd (b * 64 + v) 0) p ≡ true
-          → (p < people) × (b * 64 + p < x + 1) × (getD class (b * 64 + p) 0 % 64 ≡ v)
-      old b v p l m h = let o = w .only b v p l m h in (o .0, omega (arith, o .1), o .2)
-
-      -- the entry of somebody
-      pub named-take : ByName people levels class (x + 1) (set crowd (place class x) word)
-      named-take =
-          record {
-            sized = length-set crowd (place class x) word ∙ w .sized;
-            has = λ b p l m h.
-                by-cases (eqb (b * 64 + p) x)
-                (λ t. own b p m (eqb-true (b * 64 + p) x t))
-                (λ t. keeps _ p (w .has b p l m (let z : b * 64 + p ≡ x → ⊥ = eqb-false (b * 64 + p) x t in omega arith)));
-            only = λ b v p l m h.
-                by-cases (eqb (b * 64 + v) (place class x))
-                (λ t. let e : b * 64 + v ≡ place class x = eqb-true (b * 64 + v) (place class x) t in
-                let g : hasBit word p ≡ true = sym (ap (λ (y : ℕ). hasBit y p) same) ∙ subst (λ (y : ℕ). hasBit (getD (set crowd (place class x) word) y 0) p ≡ true) e h in
-                by-cases (eqb p (x % 64))
-                (λ u. new b v p l m e (eqb-true p (x % 64) u))
-                (λ u. old b v p l m
-                (subst (λ (y : ℕ). hasBit (getD crowd y 0) p ≡ true) (sym e) (sym (added-other joined p (eqb-false p (x % 64) u)) ∙ g))))
-                (λ t. old b v p l m
-                (sym (ap (λ (y : ℕ). hasBit y p) (getD-set-other crowd (place class x) (b * 64 + v) word 0 (eqb-false (b * 64 + v) (place class x) t))) ∙ h));
-          }
-
--- ---- the people of each person's class
-
-module _ (class named : List ℕ) where
-  pub person-none : (crowd : List ℕ) → length crowd ≡ 192 → ByPerson class named 0 crowd
+module _ (class numbered : List ℕ) where
+  pub person-none : (crowd : List ℕ) → length crowd ≡ 192 → ByPerson class numbered 0 crowd
   person-none crowd l = record { sized = l; each = λ y h. absurd (not-suc-le-zero h) }
 
-  pub person-more : (x : ℕ) (crowd : List ℕ) → x < 192 → ByPerson class named x crowd
-      → ByPerson class named (x + 1) (set crowd x (getD named (x - x % 64 + getD class x 0 % 64) 0))
+  pub person-more : (x : ℕ) (crowd : List ℕ) → x < 192 → ByPerson class numbered x crowd
+      → ByPerson class numbered (x + 1) (set crowd x (getD numbered (x - x % 64 + getD class x 0 % 64) 0))
   person-more x crowd l w =
       record {
         sized = length-set crowd x _ ∙ w .sized;
         each = λ y h.
             by-cases (eqb y x)
-            (λ t. subst (λ (z : ℕ). getD (set crowd x (getD named (x - x % 64 + getD class x 0 % 64) 0)) z 0 ≡ getD named (z - z % 64 + getD class z 0 % 64) 0)
+            (λ t. subst (λ (z : ℕ). getD (set crowd x (getD numbered (x - x % 64 + getD class x 0 % 64) 0)) z 0 ≡ getD numbered (z - z % 64 + getD class z 0 % 64) 0)
             (sym (eqb-true y x t)) (getD-set-same crowd x _ 0 (omega (arith, w .sized))))
             (λ t. let d : y ≡ x → ⊥ = eqb-false y x t in getD-set-other crowd x y _ 0 d ∙ w .each y (omega arith));
       }
 
-pub gathered : {people levels : ℕ} {class named crowd : List ℕ} (x : ℕ) → people ≤ 64 → levels * 64 ≤ x
-    → ByName people levels class (levels * 64) named → ByPerson class named x crowd → Gathered people levels class crowd
-gathered {people} {levels} {class} {named} {crowd} x few all w m =
+pub gathered : {people levels : ℕ} {class numbered crowd : List ℕ} (x : ℕ) → people ≤ 64 → levels * 64 ≤ x
+    → ByNumber people levels class (λ b p. p) (levels * 64) numbered → ByPerson class numbered x crowd → Gathered people levels class crowd
+gathered {people} {levels} {class} {numbered} {crowd} x few all w m =
     record {
       sized = m .sized;
       has = λ b p p′ l h h′ e.
           subst (λ (z : ℕ). hasBit z p′ ≡ true) (sym (entry b p l h))
-          (subst (λ (z : ℕ). hasBit (getD named (b * 64 + z) 0) p′ ≡ true) e (w .has b p′ l h′ (omega arith)));
+          (subst (λ (z : ℕ). hasBit (getD numbered (b * 64 + z) 0) p′ ≡ true) e (w .has b p′ l h′ (omega arith)));
       only = λ b p p′ l h t.
-          let o = w .only b (getD class (b * 64 + p) 0 % 64) p′ l (omega arith) (subst (λ (z : ℕ). hasBit z p′ ≡ true) (entry b p l h) t) in
-          (o .0, o .2);
+          let o = w .only b (numberIn class b p) p′ l (omega arith) (subst (λ (z : ℕ). hasBit z p′ ≡ true) (entry b p l h) t) in
+          (subst (λ (z : ℕ). z < people) (o .3) (o .1), ap (numberIn class b) (sym (o .3)) ∙ o .2);
     }
   where
-    entry : (b p : ℕ) → b < levels → p < people → getD crowd (b * 64 + p) 0 ≡ getD named (b * 64 + getD class (b * 64 + p) 0 % 64) 0
+    entry : (b p : ℕ) → b < levels → p < people → getD crowd (b * 64 + p) 0 ≡ getD numbered (b * 64 + getD class (b * 64 + p) 0 % 64) 0
     entry b p l h =
         let z : b * 64 + p - (b * 64 + p) % 64 ≡ b * 64 = omega arith in
-        m .each (b * 64 + p) (omega arith) ∙ ap (λ (y : ℕ). getD named (y + getD class (b * 64 + p) 0 % 64) 0) z
+        m .each (b * 64 + p) (omega arith) ∙ ap (λ (y : ℕ). getD numbered (y + getD class (b * 64 + p) 0 % 64) 0) z
+
+-- ---- a last level on which each person is a class
+
+-- the levels before the last are gathered, and at the last the people before n have themselves
+pub record Completing (people last : ℕ) (class : List ℕ) (n : ℕ) (crowd : List ℕ) : Type 0 where
+  pub above : Gathered people last class crowd
+  pub own : (p : ℕ) → p < n → hasBit (getD crowd (last * 64 + p) 0) p ≡ true
+  pub none : (p p′ : ℕ) → p < n → hasBit (getD crowd (last * 64 + p) 0) p′ ≡ true → p′ ≡ p
+
+module _ {people last : ℕ} {class crowd : List ℕ} (few : people ≤ 64) where
+  pub completing-none : Gathered people last class crowd → Completing people last class 0 crowd
+  completing-none g = record { above = g; own = λ p h. absurd (not-suc-le-zero h); none = λ p p′ h. absurd (not-suc-le-zero h) }
+
+  pub completing-more : (n word : ℕ) → n < people → last < 3 → Completing people last class n crowd → Added 0 n word
+      → Completing people last class (n + 1) (set crowd (last * 64 + n) word)
+  completing-more n word l deep w joined =
+      record {
+        above = record {
+          sized = length-set crowd (last * 64 + n) word ∙ w .above .sized;
+          has = λ b p p′ m h h′ e. ap (λ (x : ℕ). hasBit x p′) (other b p m h) ∙ w .above .has b p p′ m h h′ e;
+          only = λ b p p′ m h t. w .above .only b p p′ m h (sym (ap (λ (x : ℕ). hasBit x p′) (other b p m h)) ∙ t);
+        };
+        own = λ p h.
+            by-cases (eqb p n)
+            (λ t. subst (λ (x : ℕ). hasBit (getD (set crowd (last * 64 + n) word) (last * 64 + x) 0) x ≡ true) (sym (eqb-true p n t))
+            (ap (λ (x : ℕ). hasBit x n) same ∙ added-has joined))
+            (λ t. ap (λ (x : ℕ). hasBit x p) (before p (eqb-false p n t)) ∙ w .own p (let d = eqb-false p n t in omega arith));
+        none = λ p p′ h k.
+            by-cases (eqb p n)
+            (λ t. let e : p ≡ n = eqb-true p n t in
+            by-cases (eqb p′ n)
+            (λ u. eqb-true p′ n u ∙ sym e)
+            (λ u. true-false
+            (sym (added-other joined p′ (eqb-false p′ n u)) ∙ sym (ap (λ (x : ℕ). hasBit x p′) same)
+            ∙ subst (λ (x : ℕ). hasBit (getD (set crowd (last * 64 + n) word) (last * 64 + x) 0) p′ ≡ true) e k) (empty-lacks p′)))
+            (λ t. w .none p p′ (let d = eqb-false p n t in omega arith) (sym (ap (λ (x : ℕ). hasBit x p′) (before p (eqb-false p n t))) ∙ k));
+      }
+    where
+      same : getD (set crowd (last * 64 + n) word) (last * 64 + n) 0 ≡ word
+      same = getD-set-same crowd (last * 64 + n) word 0 (omega (arith, w .above .sized))
+
+      before : (p : ℕ) → (p ≡ n → ⊥) → getD (set crowd (last * 64 + n) word) (last * 64 + p) 0 ≡ getD crowd (last * 64 + p) 0
+      before p d = getD-set-other crowd (last * 64 + n) (last * 64 + p) word 0 (omega arith)
+
+      other : (b p : ℕ) → b < last → p < people → getD (set crowd (last * 64 + n) word) (b * 64 + p) 0 ≡ getD crowd (b * 64 + p) 0
+      other b p m h = getD-set-other crowd (last * 64 + n) (b * 64 + p) word 0 (omega arith)
+
+  pub completed : (n levels : ℕ) → people ≤ n → suc last ≡ levels → ((p : ℕ) → p < people → numberIn class last p ≡ p) → Completing people last class n crowd
+      → Gathered people levels class crowd
+  completed n levels all deep its w =
+      record {
+        sized = w .above .sized;
+        has = λ b p p′ l h h′ e.
+            below-suc last b (omega arith)
+            (λ m. w .above .has b p p′ m h h′ e)
+            (λ m. let k : p′ ≡ p = sym (its p′ h′) ∙ subst (λ (x : ℕ). numberIn class x p′ ≡ numberIn class x p) m e ∙ its p h in
+            subst (λ (x : ℕ). hasBit (getD crowd (x * 64 + p) 0) p′ ≡ true) (sym m)
+            (subst (λ (x : ℕ). hasBit (getD crowd (last * 64 + p) 0) x ≡ true) (sym k) (w .own p (omega arith))));
+        only = λ b p p′ l h t.
+            below-suc last b (omega arith)
+            (λ m. w .above .only b p p′ m h t)
+            (λ m. let k : p′ ≡ p = w .none p p′ (omega arith) (subst (λ (x : ℕ). hasBit (getD crowd (x * 64 + p) 0) p′ ≡ true) m t) in
+            (omega arith, ap (numberIn class b) k));
+      }
+
+-- the table of the people of each person's class, from what the search over people is given
+pub given-gathered : {size : Size} {class crowd rule : List ℕ} → Given size crowd rule → Numbers size class crowd
+    → Gathered (size .people) (size .levels) class crowd
+given-gathered {size} {class} {crowd} given its =
+    record {
+      sized = given .crowds .sized;
+      has = λ b p p′ l h h′ e.
+          subst (λ (x : ℕ). hasBit (getD crowd x 0) p′ ≡ true) (at b p)
+          (given .crowds .has (suc b) p p′ (omega arith) l h h′
+          (numbered-back given its (suc b) p′ p (omega arith) l h′ h (sym (number b p′ l h′) ∙ e ∙ number b p l h)));
+      only = λ b p p′ l h t.
+          let o = given .crowds .only (suc b) p p′ (omega arith) l h (subst (λ (x : ℕ). hasBit (getD crowd x 0) p′ ≡ true) (sym (at b p)) t) in
+          (o .0, number b p′ l (o .0) ∙ numbered-forth given its (suc b) p′ p (omega arith) l (o .0) h (o .1) ∙ sym (number b p l h));
+    }
+  where
+    at : (b p : ℕ) → (suc b - 1) * 64 + p ≡ b * 64 + p
+    at b p = let e : suc b - 1 ≡ b = omega arith in ap (λ (x : ℕ). x * 64 + p) e
+
+    number : (b p : ℕ) → b < size .levels → p < size .people → numberIn class b p ≡ classIn class (suc b) p
+    number = entry (numbered-classed given its)

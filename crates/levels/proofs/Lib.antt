@@ -1,3 +1,4 @@
+pub mod Nesting
 pub mod Keeping
 pub mod Numbering
 pub mod Copying
@@ -5,3 +6,4 @@ pub mod Masks
 pub mod Trimming
 pub mod Crowds
 pub mod Names
+pub mod Nested

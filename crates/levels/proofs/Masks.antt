@@ -1,4 +1,4 @@
--- The masks of the people of each person's class, gathered by the classes' names, know the same classes. Assumes nothing.
+-- The masks of the people of each person's class, gathered by the classes' numbers, know the same classes. Assumes nothing.
 use mathlib.Core.Bool.{true}
 use mathlib.Core.List.{List}
 use mathlib.Core.Path.{_≡_, refl, sym, subst, ap, _∙_}
@@ -11,28 +11,19 @@ use Rattle.bits.proofs.Masks.{bits-below}
 use Rattle.bits.proofs.SetLaws.{same-bits}
 use Rattle.workflow.specs.Same.{SamePlans}
 use Rattle.pattern.specs.declared.Size.{Size}
-use Rattle.pattern.specs.Given.{Given, Leaders, Classed}
-use Rattle.pattern.specs.Realize.{leader}
+use Rattle.pattern.specs.Given.{Given, Numbers, Classed}
 use Rattle.pattern.specs.Tables.{classIn, jobIn}
-use Rattle.pattern.proofs.Leader.{leader-below}
-use Rattle.pattern.proofs.Classes.{Joined, refining-moves, leader-moves, same-plans}
+use Rattle.pattern.proofs.Classes.{Joined, refining-moves, numbers-move, same-plans, number-small}
 use Rattle.levels.specs.Tabled.{Gathered}
 
 module _ {size : Size} {class crowd rule : List ℕ} (classed : Classed size class rule) (g : Gathered (size .people) (size .levels) class crowd) where
-  -- a name is the number of a person
-  small : (q p : ℕ) → 1 ≤ q → q ≤ size .levels → p < size .people → classIn class q p < 64
-  small q p a b l =
-      let e = classed .leaders q p a b l in
-      let f = leader-below (jobIn size class rule) q p l in
-      omega (arith, classed .few-people)
-
   has : (q p p′ : ℕ) → 1 ≤ q → q ≤ size .levels → p < size .people → p′ < size .people → classIn class q p′ ≡ classIn class q p → hasBit (classIn crowd q p) p′ ≡ true
   has q p p′ a b l m e = g .has (q - 1) p p′ (omega arith) l m (ap (λ (v : ℕ). v % 64) e)
 
   only : (q p p′ : ℕ) → 1 ≤ q → q ≤ size .levels → p < size .people → hasBit (classIn crowd q p) p′ ≡ true → (p′ < size .people) × (classIn class q p′ ≡ classIn class q p)
   only q p p′ a b l h =
       let o = g .only (q - 1) p p′ (omega arith) l h in
-      (o .0, sym (mod-eq-of-lt (small q p′ a b (o .0))) ∙ o .1 ∙ mod-eq-of-lt (small q p a b l))
+      (o .0, sym (mod-eq-of-lt (number-small classed q p′ a b (o .0))) ∙ o .1 ∙ mod-eq-of-lt (number-small classed q p a b l))
 
   -- people of one class have one mask
   forth : Joined size class crowd
@@ -63,11 +54,11 @@ module _ {size : Size} {class crowd rule : List ℕ} (classed : Classed size cla
         refining = refining-moves size class crowd rule forth back (classed .refining);
       }
 
-  pub gathered-leaders : Leaders size class crowd rule
-  gathered-leaders =
+  pub gathered-numbers : Numbers size class crowd
+  gathered-numbers =
       record {
         sized = classed .classes;
-        leaders = λ q p a b l. classed .leaders q p a b l ∙ leader-moves size class crowd rule forth back q p a b l;
+        numbers = λ q p a b l. classed .numbers q p a b l ∙ numbers-move size class crowd rule forth back q p a b l;
       }
 
   pub gathered-same : SamePlans (jobIn size class rule) (jobIn size crowd rule)

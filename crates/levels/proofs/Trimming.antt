@@ -1,25 +1,25 @@
 -- A job without the levels that no rule names has the same valid plans, and is one that the search can take. Assumes nothing.
 use mathlib.Core.List.{List}
-use mathlib.Core.Path.{_≡_, refl, sym, subst, ap, ap₂, _∙_}
+use mathlib.Core.Path.{_≡_, refl, sym, subst, ap, _∙_}
 use Prim.Native.Nat.{ℕ, suc, _*_, _%_, _^_, _≤_, _<_}
 use native.Mathlib.Omega.{arith}
-use lib.Dec.{eqb}
 use lib.ListN.{getD}
 use Rattle.bits.specs.Below.{count}
 use Rattle.bits.specs.Word.{hasBit}
-use Rattle.bits.proofs.Below.{first-cong}
 use Rattle.workflow.specs.Problem.{Job, RuleOk}
 use Rattle.workflow.specs.Same.{Renamed}
 use Rattle.workflow.proofs.Same.{renamed-same, same-trans}
 use Rattle.pattern.specs.declared.Size.{Size}
-use Rattle.pattern.specs.Given.{Ruled, Given, Leaders, Classed}
+use Rattle.pattern.specs.Given.{Ruled, ClassTable, Classed}
 use Rattle.pattern.specs.Pattern.{Refining}
-use Rattle.pattern.specs.Realize.{nameOf, leader}
+use Rattle.pattern.specs.Number.{numberOf}
 use Rattle.pattern.specs.Rule.{levelIn, leastIn, mostIn, scopeIn}
 use Rattle.pattern.specs.Tables.{classIn, ruleIn, jobIn}
+use Rattle.pattern.proofs.Classes.{classed-table}
 use Rattle.pattern.proofs.Levels.{refining-up}
+use Rattle.pattern.proofs.Number.{number-moves}
 use Rattle.levels.specs.Tabled.{Gathered, Naming}
-use Rattle.levels.proofs.Masks.{gathered-given, gathered-leaders, gathered-same}
+use Rattle.levels.proofs.Masks.{gathered-given, gathered-numbers, gathered-same}
 use Rattle.levels.specs.Trims.{Marks, KeptLevels, Rows, Renumbered, Trims}
 
 module _ (size : Size) (n marks : ℕ) (class rule class′ rule′ old new : List ℕ) (given : Classed size class rule) (marked : Marks (size .rules) rule marks)
@@ -85,12 +85,12 @@ module _ (size : Size) (n marks : ℕ) (class rule class′ rule′ old new : Li
             ∙ sym (row q p′ a (omega arith) l′);
       }
 
-  leaders : (q p : ℕ) → 1 ≤ q → q ≤ n → p < size .people → classIn class′ q p ≡ leader is q p
-  unfolding nameOf
-  leaders q p a b l =
+  numbers : (q p : ℕ) → 1 ≤ q → q ≤ n → p < size .people → classIn class′ q p ≡ numberOf (size .people) (classIn class′ q) p
+  numbers q p a b l =
       row q p a b l
-      ∙ given .leaders (getD old q 0) p (numbered .keeps .from q a b) (numbered .keeps .to q a b) l
-      ∙ first-cong (size .people) _ _ (λ p′ m. ap₂ eqb (sym (row q p′ a b m)) (sym (row q p a b l)))
+      ∙ given .numbers (getD old q 0) p (numbered .keeps .from q a b) (numbered .keeps .to q a b) l
+      ∙ number-moves (size .people) (classIn class (getD old q 0)) (classIn class′ q)
+      (λ x y k m e. row q x a b k ∙ e ∙ sym (row q y a b m)) (λ x y k m e. sym (row q x a b k) ∙ e ∙ row q y a b m) p l
 
   ruled : Ruled size′ rule′
   ruled =
@@ -113,15 +113,19 @@ module _ (size : Size) (n marks : ℕ) (class rule class′ rule′ old new : Li
       }
 
   classed : Classed size′ class′ rule′
-  classed = record { ruled = ruled; few-people = given .few-people; classes = rows .sized; refining = refining; leaders = leaders }
+  classed = record { ruled = ruled; few-people = given .few-people; classes = rows .sized; refining = refining; numbers = numbers }
 
   pub ruled-trimmed : Ruled size′ rule′
   ruled-trimmed = ruled
+
+  pub table-trimmed : ClassTable (size .people) n class′
+  table-trimmed = classed-table classed
 
   pub trims : {crowd of : List ℕ} → Gathered (size .people) n class′ crowd → Naming (size .rules) rule′ of
       → Trims size class rule (record { size = size′; class = class′; crowd = crowd; rule = rule′; of = of })
   trims g w =
       record {
-        ready = record { tabled = record { given = gathered-given classed g; naming = w }; names = gathered-leaders classed g };
+        ready = record { tabled = record { given = gathered-given classed g; naming = w }; numbers = gathered-numbers classed g };
         same = same-trans (renamed-same was is renamed) (gathered-same classed g);
+        kept = λ k a b. (getD old k 0, numbered .keeps .from k a b, numbered .keeps .to k a b, λ p l. row k p a b l);
       }

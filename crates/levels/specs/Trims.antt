@@ -51,7 +51,9 @@ pub record Renumbered (n : ℕ) (rule new rule′ : List ℕ) : Type 0 where
   pub each : (i : ℕ) → i < n
       → Packed (getD new (levelIn (getD rule i 0)) 0 % 16) (leastIn (getD rule i 0)) (mostIn (getD rule i 0)) (scopeIn (getD rule i 0)) (getD rule′ i 0)
 
--- the tables are a job with the same valid plans
+-- the tables are a job with the same valid plans; each of its levels has the numbers of one that there was
 pub record Trims (size : Size) (class rule : List ℕ) (t : Tables) : Type 0 where
   pub ready : Ready t
   pub same : SamePlans (jobIn size class rule) (tabledJob t)
+  pub kept : (k : ℕ) → 1 ≤ k → k ≤ t .size .levels
+      → (q : ℕ) × (1 ≤ q) × (q ≤ size .levels) × ((p : ℕ) → p < size .people → classIn (t .class) k p ≡ classIn class q p)

@@ -1,4 +1,5 @@
 // The tables that are made once for a job: the people of each person's class, and the rules that name each step.
+use crate::nest::by_number;
 use bits::set::with;
 use bits::sizes::CLASS_ENTRIES;
 use bits::sizes::Classes;
@@ -9,37 +10,42 @@ use bits::sizes::Rules;
 use bits::small;
 use pattern::Size;
 use pattern::rule;
+use pattern::table::alone;
 ghost use mathlib.Core.Path.{_≡_};
-ghost use Prim.Native.Nat.{_*_, _≤_};
-ghost use lib.ListN.{length, replicate};
-ghost use Rattle.pattern.specs.Given.{Ruled};
-ghost use Rattle.levels.specs.Tabled.{ByName, Gathered, Naming};
+ghost use Prim.Native.Nat.{_≤_};
+ghost use lib.ListN.{length};
+ghost use Rattle.pattern.specs.Given.{Ruled, ClassTable};
+ghost use Rattle.levels.specs.Tabled.{Gathered, Naming};
 
-// Puts the people of each class at its name into an array of zeros; a class is named by a number below 64.
-fn by_name(people: usize, levels: usize, class: &Classes, named: &mut Crowds)
-    requires { ⌜ (people ≤ 64) × (levels ≤ 3) × (length (now class) ≡ 192) × (now named ≡ replicate 192 0) ⌝ }
-    ensures { λ _. ⌜ ByName people levels (now (class .entry)) (levels * 64) (now (named .exit)) ⌝ }
-{
-    for x in 0..levels * MOST_PEOPLE {
-        let p = x % MOST_PEOPLE;
-        if p >= people {
-            continue;
-        }
-        let v = x - p + (class[x] % 64) as usize;
-        named[v] = with(named[v], p);
-    }
-}
-
-// The people of each person's class.
-pub fn crowds(people: usize, levels: usize, class: &Classes) -> Crowds
+// The people of each person's class, gathered by the numbers of the classes.
+fn gather(people: usize, levels: usize, class: &Classes) -> Crowds
     requires { ⌜ (people ≤ 64) × (levels ≤ 3) × (length (now class) ≡ 192) ⌝ }
     ensures { λ r. ⌜ Gathered people levels (now (class .entry)) r ⌝ }
 {
-    let mut named = [0u64; CLASS_ENTRIES];
-    by_name(people, levels, class, &mut named);
+    let mut numbered = [0u64; CLASS_ENTRIES];
+    by_number(people, levels, class, &mut numbered);
     let mut crowd = [0u64; CLASS_ENTRIES];
     for x in 0..levels * MOST_PEOPLE {
-        crowd[x] = named[x - x % MOST_PEOPLE + (class[x] % 64) as usize];
+        crowd[x] = numbered[x - x % MOST_PEOPLE + (class[x] % 64) as usize];
+    }
+    crowd
+}
+
+// The people of each person's class. At the last level that is mostly the person alone.
+pub fn crowds(people: usize, levels: usize, class: &Classes) -> Crowds
+    requires { ⌜ (levels ≤ 3) × ClassTable people levels (now class) ⌝ }
+    ensures { λ r. ⌜ Gathered people levels (now (class .entry)) r ⌝ }
+{
+    if levels == 0 {
+        return gather(people, levels, class);
+    }
+    let last = levels - 1;
+    if !alone(people, class, last) {
+        return gather(people, levels, class);
+    }
+    let mut crowd = gather(people, last, class);
+    for p in 0..people {
+        crowd[last * MOST_PEOPLE + p] = with(0, p);
     }
     crowd
 }

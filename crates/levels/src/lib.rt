@@ -19,6 +19,7 @@ ghost use Rattle.pattern.specs.Given.{Ruled, Classed};
 ghost use Rattle.levels.specs.Trims.{Marks, KeptLevels, OldLevels, Rows, Renumbered, Trims};
 
 mod index;
+pub mod nest;
 
 // The levels kept: how many, the old number of each, and the new number of each old one.
 pub struct Numbers {
@@ -27,8 +28,8 @@ pub struct Numbers {
     pub new: [u8; 4],
 }
 
-// The arrays of a job: its counts, the class of each person and the people of each class at each level,
-// the rules and those of them that name each step.
+// The arrays of a job: its counts, the number and the people of each person's class at each level, the rules
+// and those of them that name each step.
 pub struct Tables {
     pub size: Size,
     pub class: Classes,

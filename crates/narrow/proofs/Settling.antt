@@ -15,8 +15,8 @@ use Rattle.bits.proofs.Below.{by-cases, true-false, below-suc, and-left, and-ri
 use Rattle.bits.proofs.Counting.{and-of, is-false, bool-ext}
 use Rattle.bits.proofs.SetLaws.{and-bit-left, and-bit-right, or-bit, empty-lacks, has-below, added-has, added-other, removed-lacks, removed-other, removed-was}
 use Rattle.workflow.specs.Problem.{Plan, distinct}
-use Rattle.pattern.proofs.Leader.{name-same, names-distinct}
-use Rattle.pattern.specs.Realize.{nameOf}
+use Rattle.pattern.proofs.Number.{use-same, uses-distinct}
+use Rattle.pattern.specs.Number.{firstUse}
 use Rattle.workflow.specs.Labels.{LabelsOf}
 use Rattle.workflow.proofs.Labels.{Adds, labels-none, labels-cong, added-had, labels-more}
 use Rattle.eligible.proofs.Names.{lowest-name}
@@ -82,7 +82,7 @@ bound-of (suc n) c =
 pub record Settling (steps people : ℕ) (c : ℕ → ℕ) (scope : ℕ) (dom : List ℕ) (left used labels wide : ℕ) : Type 0 where
   pub part : (s : ℕ) → hasBit wide s ≡ true → (s < steps) × (hasBit scope s ≡ true) × (hasBit left s ≡ false)
   pub rest : (s : ℕ) → hasBit left s ≡ true → (s < steps) × (hasBit scope s ≡ true)
-  pub names : (π : Plan) → Takes steps people dom π → LabelsOf steps (settled scope wide left) (λ s. nameOf people c (π s)) labels
+  pub names : (π : Plan) → Takes steps people dom π → LabelsOf steps (settled scope wide left) (λ s. firstUse people c (π s)) labels
   pub used-by : (π : Plan) → Takes steps people dom π → UsedBy steps people c (settled scope wide left) π used
 
 module _ {steps people : ℕ} {c : ℕ → ℕ} {scope : ℕ} {dom : List ℕ} where
@@ -179,7 +179,7 @@ module _ {steps people : ℕ} {c : ℕ → ℕ} {scope : ℕ} {dom : List ℕ} w
             names = λ π t.
                 let o = met π t in
                 labels-more (w .names π t) adds
-                (added-had (subst (λ (x : ℕ). hasBit labels x ≡ true) (name-same people c (π (o .0)) (π s) (o .3)) (w .names π t .has (o .0) (o .1) (o .2))));
+                (added-had (subst (λ (x : ℕ). hasBit labels x ≡ true) (use-same people c (π (o .0)) (π s) (o .3)) (w .names π t .has (o .0) (o .1) (o .2))));
             used-by = λ π t.
                 let v = w .used-by π t in
                 record {
@@ -233,7 +233,7 @@ module _ {steps people : ℕ} {c : ℕ → ℕ} {scope : ℕ} {dom : List ℕ} w
         part = λ s h. let r = v .part s h in (r .0, r .1);
         number = λ π t.
             counted steps (settled scope wide 0) _ (v .names π t)
-            ∙ names-distinct people c steps (settled scope wide 0) π (λ s l h. t .within s l);
+            ∙ uses-distinct people c steps (settled scope wide 0) π (λ s l h. t .within s l);
         used-by = v .used-by;
       }
 

@@ -5,13 +5,14 @@ use native.Mathlib.Omega.{arith}
 use lib.ListN.{getD}
 use lib.Pow.{pow-mono}
 use Rattle.pattern.specs.declared.Size.{Size}
-use Rattle.pattern.specs.Given.{Ruled, Given}
+use Rattle.pattern.specs.Given.{Ruled}
+use Rattle.pattern.specs.Pattern.{Refining}
 use Rattle.pattern.specs.Rule.{scopeIn}
 use Rattle.pattern.specs.Search.{Searchable}
-use Rattle.pattern.specs.Tables.{jobIn}
+use Rattle.pattern.specs.Tables.{jobWith}
 
-pub searchable : {size : Size} {crowd rule : List ℕ} → Given size crowd rule → Searchable (jobIn size crowd rule)
-searchable g = record { refining = g .refining; rule-ok = g .ruled .rule-ok }
+pub searchable : {size : Size} {class : ℕ → ℕ → ℕ} {rule : List ℕ} → Ruled size rule → Refining (jobWith size class rule) → Searchable (jobWith size class rule)
+searchable r f = record { refining = f; rule-ok = r .rule-ok }
 
 -- the scope of a rule is a set of numbers below 12
 pub scope-small : {size : Size} {rule : List ℕ} → Ruled size rule → (i : ℕ) → i < size .rules → scopeIn (getD rule i 0) < 4096

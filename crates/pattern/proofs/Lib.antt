@@ -1,6 +1,6 @@
 pub mod Levels
 pub mod Sets
-pub mod Leader
+pub mod Number
 pub mod Patterns
 pub mod Place
 pub mod Ways
@@ -15,3 +15,4 @@ pub mod Counted
 pub mod Packing
 pub mod Given
 pub mod Classes
+pub mod Nested

@@ -1,4 +1,4 @@
--- Lemma 3.9 with groups and classes by name, over any edges that say which class of the next level a group can go to. Assumes nothing.
+-- Lemma 3.9 with groups by name and classes by number, over any edges that say which class of the next level a group can go to. Assumes nothing.
 use mathlib.Core.Bool.{Bool, true}
 use mathlib.Core.Logic.{_↔_}
 use mathlib.Core.Path.{_≡_, refl, sym, _∙_}
@@ -69,66 +69,69 @@ module _ (j : Job) (refining : Refining j) where
         classmate = λ p p′ l l′ e h. eq-eqb _ _ (sym (refining .finer (suc q) p p′ (omega arith) d l l′ e) ∙ eqb-true _ _ h);
       }
 
-  -- and such a class is the same within it
-  pub class-next : (q u v : ℕ) → q < j .levels → v < j .people → classOf j q u v ≡ true → (p : ℕ) → p < j .people
-      → fibre (classOf j q u) (j .class (suc q)) (j .class (suc q) v) p ≡ true ↔ classOf j (suc q) v p ≡ true
+  -- and such a class is the same within it, where it has somebody there
+  pub class-in : (q u v p : ℕ) → fibre (classOf j q u) (j .class (suc q)) v p ≡ true → classOf j (suc q) v p ≡ true
   unfolding classOf
-  class-next q u v d b i p l = (
-    λ x. eq-eqb (j .class (suc q) p) (j .class (suc q) v) (fibre-at (classOf j q u) (j .class (suc q)) (j .class (suc q) v) p x),
-    λ x.
-        let e : j .class (suc q) p ≡ j .class (suc q) v = eqb-true _ _ x in
-        fibre-of (classOf j q u) (j .class (suc q)) (j .class (suc q) v) p (class-whole q u d .classmate v p b l (sym e) i) e,
-  )
+  class-in q u v p x = eq-eqb (j .class (suc q) p) v (fibre-at (classOf j q u) (j .class (suc q)) v p x)
+
+  pub class-of : (q u v : ℕ) → q < j .levels → (p′ : ℕ) → p′ < j .people → classOf j q u p′ ≡ true → j .class (suc q) p′ ≡ v → (p : ℕ) → p < j .people
+      → classOf j (suc q) v p ≡ true → fibre (classOf j q u) (j .class (suc q)) v p ≡ true
+  unfolding classOf
+  class-of q u v d p′ b i is p l x =
+      let e : j .class (suc q) p ≡ v = eqb-true _ _ x in
+      fibre-of (classOf j q u) (j .class (suc q)) v p (class-whole q u d .classmate p′ p b l (is ∙ sym e) i) e
 
 module _ (j : Job) (may : May) (placed : ℕ → Bool) (label : Label) (refining : Refining j) (pattern : Pattern (j .steps) (j .levels) placed label) where
-  -- the edges by sets and by name
+  -- the edges by sets and by numbers
   pub hosts-at : (q g u h v : ℕ) → q < j .levels → h < j .steps → groups (groupOf placed label q g) (label (suc q)) h ≡ true
       → Hosts j may label q (groupOf placed label q g) (classOf j q u) h v ↔ HostsAt j may placed label q u h v
   hosts-at q g u h v d b i = (
-    λ x. record {
-      person = x .person;
-      inside = x .inside;
-      leads = x .leads;
-      realized = realized-mono j may label label (suc q) _ _ _ _
-          (λ s l. group-next j placed label q g h d pattern b i s l .1)
-          (λ p l. class-next j refining q u v d (x .person) (x .inside) p l .0) (λ r s a b l i. refl) (x .realized);
-    },
-    λ x. record {
-      person = x .person;
-      inside = x .inside;
-      leads = x .leads;
-      realized = realized-mono j may label label (suc q) _ _ _ _
-          (λ s l. group-next j placed label q g h d pattern b i s l .0)
-          (λ p l. class-next j refining q u v d (x .person) (x .inside) p l .1) (λ r s a b l i. refl) (x .realized);
-    },
+    λ x.
+        let S = groupOf placed label q g in
+        let mine = fibre-of S (label (suc q)) h h (groups-in S (label (suc q)) h i) (groups-own S (label (suc q)) h i) in
+        let w = x .1 .inside h b mine in
+        record {
+          person = x .0 h;
+          below = x .1 .within h b mine;
+          inside = fibre-in (classOf j q u) (j .class (suc q)) v (x .0 h) w;
+          class = fibre-at (classOf j q u) (j .class (suc q)) v (x .0 h) w;
+          realized = realized-mono j may label label (suc q) _ _ _ _
+              (λ s l. group-next j placed label q g h d pattern b i s l .1)
+              (λ p l. class-in j refining q u v p) (λ r s a b l i. refl) x;
+        },
+    λ x.
+        realized-mono j may label label (suc q) _ _ _ _
+        (λ s l. group-next j placed label q g h d pattern b i s l .0)
+        (λ p l. class-of j refining q u v d (x .person) (x .below) (x .inside) (x .class) p l) (λ r s a b l i. refl) (x .realized),
   )
 
-  -- group g of level q can go to the class of u exactly where its groups can be matched with classes inside it
+  -- group g of level q can go to class u exactly where its groups can be matched with classes inside it
   pub realized-step : (q g u : ℕ) → q < j .levels
       → RealizedAt j may placed label q g u
       ↔ ((f : ℕ → ℕ) × Matching (j .steps) (groups (groupOf placed label q g) (label (suc q))) (HostsAt j may placed label q u) f)
   realized-step q g u d = (
     λ w.
-        let m = realized-match j may label q d _ _ (class-whole j refining q u d) w in
+        let m = realized-match j may label q d _ _ w in
         (m .0, matching-map (j .steps) _ _ _ (m .0) (λ h v b i. hosts-at q g u h v d b i .0) (m .1)),
     λ m.
         match-realized j may label q d _ _ refining (group-consistent j placed label q g pattern) (group-labelled j placed label q g d pattern) (m .0)
         (matching-map (j .steps) _ _ _ (m .0) (λ h v b i. hosts-at q g u h v d b i .1) (m .1)),
   )
 
-  -- a plan that takes each group inside g to a class of its own inside the class of u takes g to the class of u
+  -- a plan that takes each group inside g to a class of its own inside class u takes g to class u
   pub realizes-step : (q g u : ℕ) → q < j .levels → (f : ℕ → ℕ) (π : Plan)
       → ((h h′ : ℕ) → h < j .steps → h′ < j .steps → groups (groupOf placed label q g) (label (suc q)) h ≡ true
-      → groups (groupOf placed label q g) (label (suc q)) h′ ≡ true → j .class (suc q) (f h) ≡ j .class (suc q) (f h′) → h ≡ h′)
+      → groups (groupOf placed label q g) (label (suc q)) h′ ≡ true → f h ≡ f h′ → h ≡ h′)
       → ((h : ℕ) → h < j .steps → groups (groupOf placed label q g) (label (suc q)) h ≡ true
-      → (f h < j .people) × (classOf j q u (f h) ≡ true) × Realizes j may label (suc q) (groupOf placed label (suc q) h) (classOf j (suc q) (f h)) π)
+      → ((p : ℕ) × (p < j .people) × (classOf j q u p ≡ true) × (j .class (suc q) p ≡ f h))
+      × Realizes j may label (suc q) (groupOf placed label (suc q) h) (classOf j (suc q) (f h)) π)
       → Realizes j may label q (groupOf placed label q g) (classOf j q u) π
   realizes-step q g u d f π differ sends =
       realizes-glue j may label q d _ _ f refining (group-consistent j placed label q g pattern) (group-labelled j placed label q g d pattern) differ π
       (λ h b i. let w = sends h b i in
       realizes-mono j may label label (suc q) _ _ _ _ π
       (λ s l. group-next j placed label q g h d pattern b i s l .0)
-      (λ p l. class-next j refining q u (f h) d (w .0) (w .1) p l .1) (λ r s a b l i. refl) (w .2))
+      (λ p l. class-of j refining q u (f h) d (w .0 .0) (w .0 .1) (w .0 .2) (w .0 .3) p l) (λ r s a b l i. refl) (w .1))
 
   -- the matching may go along any edges that decide which class hosts a group
   pub realized-edges : (q g u : ℕ) → q < j .levels → (Edge : ℕ → ℕ → Type 0)

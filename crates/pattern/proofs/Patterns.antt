@@ -12,7 +12,7 @@ use Rattle.workflow.specs.Problem.{Job, Plan}
 use Rattle.workflow.specs.Independent.{classesOf}
 use Rattle.pattern.specs.Pattern.{Label, Pattern, Refining, Has, patternOf}
 use Rattle.pattern.proofs.Sets.{alike-part, alike-cong, alike-trans}
-use Rattle.pattern.proofs.Leader.{first-at-most}
+use Rattle.pattern.proofs.Number.{first-at-most}
 
 module _ (j : Job) (placed : ℕ → Bool) (π : Plan) (q : ℕ) where
   -- the label of a step is a placed step of its class

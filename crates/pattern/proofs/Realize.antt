@@ -78,16 +78,16 @@ module _ (j : Job) (may : May) (label : Label) (q : ℕ) (last : j .levels ≤ q
 module _ (j : Job) (may : May) (label : Label) (q : ℕ) (deep : q < j .levels) (S C : ℕ → Bool) (f : ℕ → ℕ)
     (refining : Refining j) (consistent : Consistent (j .steps) (j .levels) S label) (lab : Labelled (j .steps) S (label (suc q)))
     (differ : (g h : ℕ) → g < j .steps → h < j .steps → groups S (label (suc q)) g ≡ true → groups S (label (suc q)) h ≡ true
-    → j .class (suc q) (f g) ≡ j .class (suc q) (f h) → g ≡ h) where
-  -- a plan that takes each group g of S to the class of f g, different groups to different classes, realizes S
+    → f g ≡ f h → g ≡ h) where
+  -- a plan that takes each group g of S to class f g, different groups to different classes, realizes S
   pub realizes-glue : (π : Plan)
       → ((g : ℕ) → g < j .steps → groups S (label (suc q)) g ≡ true
-      → Realizes j may label (suc q) (fibre S (label (suc q)) g) (fibre C (j .class (suc q)) (j .class (suc q) (f g))) π)
+      → Realizes j may label (suc q) (fibre S (label (suc q)) g) (fibre C (j .class (suc q)) (f g)) π)
       → Realizes j may label q S C π
   realizes-glue π sends =
       record {
         within = within;
-        inside = λ s l h. fibre-in C k (k (f (c s))) (π s) (of s l h .inside s l (mine s h));
+        inside = λ s l h. fibre-in C k (f (c s)) (π s) (of s l h .inside s l (mine s h));
         authorised = λ s l h. of s l h .authorised s l (mine s h);
         alike = λ r a b. record { forth = forth r a b; back = back r a b };
       }
@@ -101,7 +101,7 @@ module _ (j : Job) (may : May) (label : Label) (q : ℕ) (deep : q < j .levels) 
       group : (s : ℕ) → s < j .steps → S s ≡ true → groups S c (c s) ≡ true
       group s l h = groups-of S c (c s) (lab .among s l h) (lab .own s l h)
 
-      of : (s : ℕ) → s < j .steps → S s ≡ true → Realizes j may label (suc q) (fibre S c (c s)) (fibre C k (k (f (c s)))) π
+      of : (s : ℕ) → s < j .steps → S s ≡ true → Realizes j may label (suc q) (fibre S c (c s)) (fibre C k (f (c s))) π
       of s l h = sends (c s) (lab .below s l h) (group s l h)
 
       mine : (s : ℕ) → S s ≡ true → fibre S c (c s) s ≡ true
@@ -111,8 +111,8 @@ module _ (j : Job) (may : May) (label : Label) (q : ℕ) (deep : q < j .levels) 
       within s l h = of s l h .within s l (mine s h)
 
       -- the class of a step is that of its group
-      sent : (s : ℕ) → s < j .steps → S s ≡ true → k (π s) ≡ k (f (c s))
-      sent s l h = fibre-at C k (k (f (c s))) (π s) (of s l h .inside s l (mine s h))
+      sent : (s : ℕ) → s < j .steps → S s ≡ true → k (π s) ≡ f (c s)
+      sent s l h = fibre-at C k (f (c s)) (π s) (of s l h .inside s l (mine s h))
 
       -- steps of one class are of one group
       one-group : (s t : ℕ) → s < j .steps → t < j .steps → S s ≡ true → S t ≡ true → k (π s) ≡ k (π t) → c s ≡ c t
@@ -140,14 +140,14 @@ module _ (j : Job) (may : May) (label : Label) (q : ℕ) (deep : q < j .levels) 
           let one : c s ≡ c t = consistent-up (j .steps) (j .levels) S label consistent (suc q) r (omega arith) a b s t l m h i e in
           by-cases (eqb r (suc q))
           (λ x. subst (λ (y : ℕ). classesOf j y π s ≡ classesOf j y π t) (sym (eqb-true r (suc q) x))
-          (sent s l h ∙ ap (λ (g : ℕ). k (f g)) one ∙ sym (sent t m i)))
+          (sent s l h ∙ ap f one ∙ sym (sent t m i)))
           (λ x. let d : r ≡ suc q → ⊥ = eqb-false r (suc q) x in
           inner r (omega arith) b s l h .back s t l m (mine s h) (fibre-of S c (c s) t i (sym one)) e)
 
   -- plans for the groups, one each, make such a plan: each step goes where the plan of its group sends it
   pub realized-glue
       : ((g : ℕ) → g < j .steps → groups S (label (suc q)) g ≡ true
-      → Realized j may label (suc q) (fibre S (label (suc q)) g) (fibre C (j .class (suc q)) (j .class (suc q) (f g))))
+      → Realized j may label (suc q) (fibre S (label (suc q)) g) (fibre C (j .class (suc q)) (f g)))
       → Realized j may label q S C
   realized-glue plans =
       let w = choice (j .steps) (groups S c) Sends (λ s. 0) plans in (
@@ -161,4 +161,4 @@ module _ (j : Job) (may : May) (label : Label) (q : ℕ) (deep : q < j .levels) 
       c = label (suc q)
 
       Sends : ℕ → Plan → Type 0
-      Sends g σ = Realizes j may label (suc q) (fibre S c g) (fibre C (j .class (suc q)) (j .class (suc q) (f g))) σ
+      Sends g σ = Realizes j may label (suc q) (fibre S c g) (fibre C (j .class (suc q)) (f g)) σ

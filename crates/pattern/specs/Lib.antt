@@ -1,8 +1,10 @@
 pub mod Pattern
 pub mod Place
 pub mod Eligible
+pub mod Number
 pub mod Realize
 pub mod Search
 pub mod Rule
 pub mod Tables
 pub mod Given
+pub mod Nesting

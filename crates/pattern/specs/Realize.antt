@@ -3,7 +3,6 @@ use mathlib.Core.Bool.{Bool, true, _&&_}
 use mathlib.Core.Path.{_≡_}
 use Prim.Native.Nat.{ℕ, zero, suc, _≤_, _<_}
 use lib.Dec.{eqb}
-use Rattle.bits.specs.Below.{first}
 use Rattle.workflow.specs.Problem.{Job, May, Plan}
 use Rattle.workflow.specs.Independent.{Alike, classesOf}
 use Rattle.pattern.specs.Pattern.{Label}
@@ -27,14 +26,6 @@ Staffed j may S C = (s : ℕ) → s < j .steps → S s ≡ true → (p : ℕ) ×
 unfoldable pub fibre : (ℕ → Bool) → (ℕ → ℕ) → ℕ → ℕ → Bool
 fibre S c v s = S s && eqb (c s) v
 
--- a class is named by its first person in crew order: the name of the class of p, c giving the class of each of so many people
-unfoldable pub nameOf : ℕ → (ℕ → ℕ) → ℕ → ℕ
-nameOf people c p = first people (λ p′. eqb (c p′) (c p))
-
--- at a level of a job
-abbrev pub leader : Job → ℕ → ℕ → ℕ
-leader j q p = nameOf (j .people) (j .class q) p
-
 -- the groups inside S: each is named by its label, c giving the label of each step
 unfoldable pub groups : (ℕ → Bool) → (ℕ → ℕ) → ℕ → Bool
 groups S c g = S g && eqb (c g) g
@@ -43,12 +34,9 @@ groups S c g = S g && eqb (c g) g
 pub record Whole (j : Job) (q : ℕ) (C : ℕ → Bool) : Type 0 where
   pub classmate : (p p′ : ℕ) → p < j .people → p′ < j .people → j .class q p ≡ j .class q p′ → C p ≡ true → C p′ ≡ true
 
--- an edge of the document's graph G(S, C, q): group g of S and class v of C, both of level q + 1
-pub record Hosts (j : Job) (may : May) (label : Label) (q : ℕ) (S C : ℕ → Bool) (g v : ℕ) : Type 0 where
-  pub person : v < j .people
-  pub inside : C v ≡ true
-  pub leads : leader j (suc q) v ≡ v
-  pub realized : Realized j may label (suc q) (fibre S (label (suc q)) g) (fibre C (j .class (suc q)) (j .class (suc q) v))
+-- an edge of the document's graph G(S, C, q): group g of S can go to class v of C, both of level q + 1
+abbrev pub Hosts : Job → May → Label → ℕ → (ℕ → Bool) → (ℕ → Bool) → ℕ → ℕ → Type 0
+Hosts j may label q S C g v = Realized j may label (suc q) (fibre S (label (suc q)) g) (fibre C (j .class (suc q)) v)
 
 -- f is a matching that covers the groups, which are numbers below n
 pub record Matching (n : ℕ) (group : ℕ → Bool) (Edge : ℕ → ℕ → Type 0) (f : ℕ → ℕ) : Type 0 where
@@ -60,18 +48,19 @@ unfoldable pub groupOf : (ℕ → Bool) → Label → ℕ → ℕ → ℕ → Bo
 groupOf placed label zero g = placed
 groupOf placed label (suc q) g = fibre placed (label (suc q)) g
 
--- the people of the class of v of level q; at level 0, everybody
+-- the people of class v of level q; at level 0, everybody
 unfoldable pub classOf : Job → ℕ → ℕ → ℕ → Bool
 classOf j zero v p = true
-classOf j (suc q) v p = eqb (j .class (suc q) p) (j .class (suc q) v)
+classOf j (suc q) v p = eqb (j .class (suc q) p) v
 
--- group g of level q can go to the class of v
+-- group g of level q can go to class v of level q
 abbrev pub RealizedAt : Job → May → (ℕ → Bool) → Label → ℕ → ℕ → ℕ → Type 0
 RealizedAt j may placed label q g v = Realized j may label q (groupOf placed label q g) (classOf j q v)
 
--- an edge between group g of level q + 1 and the class named v of level q + 1, inside the class of u of level q
+-- an edge between group g of level q + 1 and class v of level q + 1, which has somebody inside class u of level q
 pub record HostsAt (j : Job) (may : May) (placed : ℕ → Bool) (label : Label) (q u g v : ℕ) : Type 0 where
-  pub person : v < j .people
-  pub inside : classOf j q u v ≡ true
-  pub leads : leader j (suc q) v ≡ v
+  pub person : ℕ
+  pub below : person < j .people
+  pub inside : classOf j q u person ≡ true
+  pub class : j .class (suc q) person ≡ v
   pub realized : RealizedAt j may placed label (suc q) g v

@@ -2,7 +2,7 @@
 use mathlib.Core.Bool.{Bool, true, false}
 use mathlib.Core.List.{List}
 use mathlib.Core.Logic.{⊎-elim}
-use mathlib.Core.Path.{_≡_, refl, sym, subst, _∙_}
+use mathlib.Core.Path.{_≡_, refl, sym, subst, ap, _∙_}
 use Prim.Native.Nat.{ℕ, suc, _+_, _*_, _≤_, _<_}
 use native.Mathlib.Numerals.{add-one}
 use native.Mathlib.Omega.{arith}
@@ -20,89 +20,108 @@ use Rattle.bits.proofs.SetLaws.{empty-lacks, has-below}
 use Rattle.matching.specs.Assignment.{Assignment, Covers, inMask, suits, classAt}
 use Rattle.workflow.specs.Problem.{Job}
 use Rattle.pattern.specs.Tables.{mayIn, labelIn}
-use Rattle.pattern.specs.Realize.{Realized, Realizes, fibre, leader, Hosts, Matching}
-use Rattle.pattern.proofs.Leader.{leader-same, leader-below, leader-own}
+use Rattle.pattern.specs.Realize.{Realized, Realizes, fibre, Hosts, Matching}
 use Rattle.pattern.proofs.Sets.{fibre-of, fibre-in, fibre-at, groups-in, groups-own}
 use Rattle.pattern.proofs.Realize.{realizes-mono, realized-mono, realized-last}
 use Rattle.pattern.proofs.Matching.{realized-match, match-realized}
 use Rattle.realize.specs.declared.parts.Task.{Task}
-use Rattle.realize.specs.Parts.{Does, Doable, groupsIn, groupIn, groupTask, classTask, Part}
+use Rattle.realize.specs.Parts.{peopleIn, Does, Doable, groupsIn, groupIn, groupTask, classTask, Part}
 use Rattle.realize.specs.Decision.{Staffing, Decided, Row, Linked, Unhosted, Covering}
-use Rattle.realize.proofs.Descend.{steps-next, people-next}
+use Rattle.realize.proofs.Descend.{steps-next}
+use Rattle.realize.proofs.Rows.{part-at}
 
--- the people of the class of v of level q + 1
+-- the people of class v of level q + 1
 abbrev pub classmates : Job → Task → ℕ → ℕ → Bool
-classmates j t v = fibre (hasBit (t .people)) (j .class (suc (t .q))) (j .class (suc (t .q)) v)
+classmates j t v = fibre (peopleIn j t) (j .class (suc (t .q))) v
 
 -- an edge of the document's graph
 abbrev pub EdgeOf : Job → List ℕ → List ℕ → Task → ℕ → ℕ → Type 0
-EdgeOf j may label t = Hosts j (mayIn may) (labelIn label) (t .q) (hasBit (t .steps)) (hasBit (t .people))
+EdgeOf j may label t = Hosts j (mayIn may) (labelIn label) (t .q) (hasBit (t .steps)) (peopleIn j t)
 
-module _ {j : Job} {may label crowd reach : List ℕ} {t : Task} (deep : t .q < t .levels) (part : Part j may label crowd reach t) where
+-- a class inside a task
+pub record Inner (t : Task) (v : ℕ) : Type 0 where
+  pub small : v < 64
+  pub inside : hasBit (t .inside) v ≡ true
+
+module _ {j : Job} {may label nest reach : List ℕ} {t : Task} (deep : t .q < t .levels) (part : Part j may label nest reach t) where
   pub depth : t .q < j .levels
   depth = omega (arith, part .tables .depth)
 
-  -- what a step can reach is the name of a class
-  named-in : (s v : ℕ) → s < 12 → hasBit (getD reach (t .q * 12 + s) 0) v ≡ true → (v < j .people) × (leader j (suc (t .q)) v ≡ v)
-  named-in s v l h =
+  -- the class of one of the people is a class inside
+  class-inner : (v p : ℕ) → p < j .people → peopleIn j t p ≡ true → j .class (suc (t .q)) p ≡ v → Inner t v
+  class-inner v p l h e =
+      record {
+        small = omega (arith, part .tables .small (t .q) p depth l, part .tables .few);
+        inside = subst (λ (x : ℕ). hasBit (t .inside) x ≡ true) e h;
+      }
+
+  -- what a step can reach is the number of a class
+  reach-small : (s v : ℕ) → s < 12 → hasBit (getD reach (t .q * 12 + s) 0) v ≡ true → v < 64
+  reach-small s v l h =
       let w = part .tables .offers .only (t .q) s v depth l h in
-      subst (λ (x : ℕ). (x < j .people) × (leader j (suc (t .q)) x ≡ x)) (w .3)
-      (leader-below j (suc (t .q)) (w .0) (w .1), leader-own j (suc (t .q)) (w .0) (w .1))
+      omega (arith, part .tables .small (t .q) (w .0) depth (w .1), part .tables .few, w .3)
 
-  -- a class of level q + 1 inside the people, at its name v
-  module _ {v : ℕ} (l : v < j .people) where
-    crowd-of : (p : ℕ) → hasBit (t .people) p ≡ true → j .class (suc (t .q)) p ≡ j .class (suc (t .q)) v → hasBit (getD crowd (t .q * 64 + v) 0) p ≡ true
-    crowd-of p h k = part .tables .crowd-has (t .q) v p depth l (part .people .below p h) k
+  -- a class of level q + 1 inside
+  module _ {v : ℕ} (in-it : Inner t v) where
+    fibre-next : (p : ℕ) → p < j .people → classmates j t v p ≡ true → peopleIn j (classTask nest t v) p ≡ true
+    fibre-next p l h =
+        part-at j nest t v p
+        ∙ subst (λ (x : ℕ). hasBit (getD nest (t .q * 64 + x) 0) (j .class (suc (suc (t .q))) p) ≡ true)
+        (fibre-at (peopleIn j t) (j .class (suc (t .q))) v p h) (part .tables .nest-has (t .q) p depth l)
 
-    fibre-crowd : (p : ℕ) → classmates j t v p ≡ true → hasBit (getD crowd (t .q * 64 + v) 0) p ≡ true
-    fibre-crowd p h =
-        crowd-of p (fibre-in (hasBit (t .people)) (j .class (suc (t .q))) _ p h) (fibre-at (hasBit (t .people)) (j .class (suc (t .q))) _ p h)
+    next-fibre : (p : ℕ) → p < j .people → peopleIn j (classTask nest t v) p ≡ true → classmates j t v p ≡ true
+    next-fibre p l h =
+        let e = part .tables .nest-only (t .q) v p depth (in-it .small) l (sym (part-at j nest t v p) ∙ h) in
+        fibre-of (peopleIn j t) (j .class (suc (t .q))) v p (subst (λ (x : ℕ). hasBit (t .inside) x ≡ true) (sym e) (in-it .inside)) e
 
-    module _ (i : hasBit (t .people) v ≡ true) where
-      -- the people hold the whole class
-      crowd-in : (p : ℕ) → hasBit (getD crowd (t .q * 64 + v) 0) p ≡ true
-          → (hasBit (t .people) p ≡ true) × (j .class (suc (t .q)) p ≡ j .class (suc (t .q)) v)
-      crowd-in p h =
-          let w = part .tables .crowd-only (t .q) v p depth l h in
-          (part .people .whole (suc (t .q)) (omega arith) depth .classmate v p l (w .0) (sym (w .1)) i, w .1)
+    -- the part that a group and a class make
+    module _ (g : ℕ) {group : ℕ} (mask : Mask (groupIn label t g) group) where
+      pub part-next : Part j may label nest reach (classTask nest (groupTask t group) v)
+      part-next =
+          record {
+            tables = part .tables;
+            steps = steps-next j (labelIn label) (t .q) g (hasBit (t .steps)) (hasBit group) depth (part .steps) (mask .each);
+            within = omega (arith, depth);
+            people = λ last p h. part .tables .crew (t .q) v p (omega arith) (in-it .small) h;
+          }
 
-      crowd-fibre : (p : ℕ) → hasBit (getD crowd (t .q * 64 + v) 0) p ≡ true → classmates j t v p ≡ true
-      crowd-fibre p h = let w = crowd-in p h in fibre-of (hasBit (t .people)) (j .class (suc (t .q))) _ p (w .0) (w .1)
+      -- sending a group to a class, by masks and by sets
+      pub does-sets : {π : ℕ → ℕ} → Does j may label (classTask nest (groupTask t group) v) π
+          → Realizes j (mayIn may) (labelIn label) (suc (t .q)) (groupIn label t g) (classmates j t v) π
+      does-sets {π} w =
+          realizes-mono j (mayIn may) (labelIn label) (labelIn label) (suc (t .q)) (hasBit group) _ (peopleIn j (classTask nest t v)) _ π
+          (λ s m h. mask-has mask s h) next-fibre (λ r s a b m h. refl)
+          (subst (λ (x : ℕ). Realizes j (mayIn may) (labelIn label) x (hasBit group) (peopleIn j (classTask nest t v)) π) (add-one (t .q)) w)
 
-      -- the part that a group and a class make
-      module _ (g : ℕ) {group : ℕ} (mask : Mask (groupIn label t g) group) where
-        pub part-next : Part j may label crowd reach (classTask crowd (groupTask t group) v)
-        part-next =
-            record {
-              tables = part .tables;
-              steps = steps-next j (labelIn label) (t .q) g (hasBit (t .steps)) (hasBit group) depth (part .steps) (mask .each);
-              people = people-next j (t .q) (j .class (suc (t .q)) v) (hasBit (t .people)) (hasBit (getD crowd (t .q * 64 + v) 0)) depth
-                  (part .tables .refining) (part .people) crowd-in crowd-of;
-            }
+      pub doable-masks : Realized j (mayIn may) (labelIn label) (suc (t .q)) (groupIn label t g) (classmates j t v)
+          → Doable j may label (classTask nest (groupTask t group) v)
+      doable-masks w =
+          subst (λ (x : ℕ). Realized j (mayIn may) (labelIn label) x (hasBit group) (peopleIn j (classTask nest t v))) (sym (add-one (t .q)))
+          (realized-mono j (mayIn may) (labelIn label) (labelIn label) (suc (t .q)) _ (hasBit group) _ (peopleIn j (classTask nest t v))
+          (λ s m h. mask-in mask s h) fibre-next (λ r s a b m h. refl) w)
 
-        -- sending a group to a class, by masks and by sets
-        pub does-sets : {π : ℕ → ℕ} → Does j may label (classTask crowd (groupTask t group) v) π
-            → Realizes j (mayIn may) (labelIn label) (suc (t .q)) (groupIn label t g) (classmates j t v) π
-        does-sets {π} w =
-            realizes-mono j (mayIn may) (labelIn label) (labelIn label) (suc (t .q)) (hasBit group) _ (hasBit (getD crowd (t .q * 64 + v) 0)) _ π
-            (λ s m h. mask-has mask s h) (λ p m h. crowd-fibre p h) (λ r s a b m h. refl)
-            (subst (λ (x : ℕ). Realizes j (mayIn may) (labelIn label) x (hasBit group) (hasBit (getD crowd (t .q * 64 + v) 0)) π) (add-one (t .q)) w)
+  group-below : (g : ℕ) → groupsIn label t g ≡ true → g < j .steps
+  group-below g i = part .steps .below g (groups-in (hasBit (t .steps)) (labelIn label (suc (t .q))) g i)
 
-        pub doable-masks : Realized j (mayIn may) (labelIn label) (suc (t .q)) (groupIn label t g) (classmates j t v)
-            → Doable j may label (classTask crowd (groupTask t group) v)
-        doable-masks w =
-            subst (λ (x : ℕ). Realized j (mayIn may) (labelIn label) x (hasBit group) (hasBit (getD crowd (t .q * 64 + v) 0))) (sym (add-one (t .q)))
-            (realized-mono j (mayIn may) (labelIn label) (labelIn label) (suc (t .q)) _ (hasBit group) _ (hasBit (getD crowd (t .q * 64 + v) 0))
-            (λ s m h. mask-in mask s h) (λ p m h. fibre-crowd p h) (λ r s a b m h. refl) w)
+  -- a class that hosts a group is inside: it has somebody for the step that names the group
+  pub edge-inner : (g v : ℕ) → groupsIn label t g ≡ true → EdgeOf j may label t g v → Inner t v
+  edge-inner g v i x =
+      let l = group-below g i in
+      let m = fibre-of (hasBit (t .steps)) (labelIn label (suc (t .q))) g g (groups-in (hasBit (t .steps)) (labelIn label (suc (t .q))) g i)
+      (groups-own (hasBit (t .steps)) (labelIn label (suc (t .q))) g i)
+      in
+      let h = x .1 .inside g l m in
+      class-inner v (x .0 g) (x .1 .within g l m) (fibre-in (peopleIn j t) (j .class (suc (t .q))) v (x .0 g) h)
+      (fibre-at (peopleIn j t) (j .class (suc (t .q))) v (x .0 g) h)
 
 -- ---- the graph of groups and classes
 
-module _ {j : Job} {may label crowd reach : List ℕ} {t : Task} (deep : t .q < t .levels) (few : t .steps < 4096) (part : Part j may label crowd reach t) where
+module _ {j : Job} {may label nest reach : List ℕ} {t : Task} (deep : t .q < t .levels) (few : t .steps < 4096) (part : Part j may label nest reach t) where
   -- a row has the edges of the document's graph
-  module _ {g row : ℕ} (v : ℕ) (w : Row may label crowd reach t g row) where
+  module _ {g row : ℕ} (v : ℕ) (w : Row may label nest reach t g row) (i : groupsIn label t g ≡ true) where
     -- a group has its label among its steps
-    own : groupsIn label t g ≡ true → hasBit (w .group) g ≡ true
-    own i =
+    own : hasBit (w .group) g ≡ true
+    own =
         mask-has (w .mask) g
         (fibre-of (hasBit (t .steps)) (labelIn label (suc (t .q))) g g (groups-in (hasBit (t .steps)) (labelIn label (suc (t .q))) g i)
         (groups-own (hasBit (t .steps)) (labelIn label (suc (t .q))) g i))
@@ -110,56 +129,54 @@ module _ {j : Job} {may label crowd reach : List ℕ} {t : Task} (deep : t .q < 
     step : (s : ℕ) → hasBit (w .group) s ≡ true → hasBit (t .steps) s ≡ true
     step s h = fibre-in (hasBit (t .steps)) (labelIn label (suc (t .q))) g s (mask-in (w .mask) s h)
 
-    decided : hasBit (w .hosted .names) v ≡ true → v < j .people → Says (hasBit row v) (Doable j may label (classTask crowd (groupTask t (w .group)) v))
-    decided n l =
-        w .hosted .hosting .done v n (empty-lacks v) .says j (part-next deep part l (w .hosted .candidates .inside v n) g (w .mask))
+    decided : hasBit (w .hosted .row) v ≡ true → Inner t v → Says (hasBit row v) (Doable j may label (classTask nest (groupTask t (w .group)) v))
+    decided n in-it = w .hosted .hosting .done v n (empty-lacks v) .says j (part-next deep part in-it g (w .mask))
 
-    row-hosts : groupsIn label t g ≡ true → hasBit row v ≡ true → EdgeOf j may label t g v
-    row-hosts i h =
-        let n : hasBit (w .hosted .names) v ≡ true = w .hosted .hosting .only v h in
-        let k : hasBit (t .people) v ≡ true = w .hosted .candidates .inside v n in
-        let x = named-in deep part g v (has-below 12 (t .steps) g few (step g (own i))) (w .hosted .candidates .each v g n (own i) (empty-lacks g)) in
-        let r = says-true (hasBit row v) _ (decided n (x .0)) h in
-        record { person = x .0; inside = k; leads = x .1; realized = (r .0, does-sets deep part (x .0) k g (w .mask) (r .1)) }
+    row-hosts : hasBit row v ≡ true → EdgeOf j may label t g v
+    row-hosts h =
+        let n : hasBit (w .hosted .row) v ≡ true = w .hosted .hosting .only v h in
+        let in-it : Inner t v
+        = record {
+          small = reach-small deep part g v (has-below 12 (t .steps) g few (step g own)) (w .hosted .candidates .each v g n own (empty-lacks g));
+          inside = w .hosted .candidates .among v n;
+        }
+        in
+        let r = says-true (hasBit row v) _ (decided n in-it) h in
+        (r .0, does-sets deep part in-it g (w .mask) (r .1))
 
     -- a class that hosts a group has somebody for each of its steps
-    hosts-named : EdgeOf j may label t g v → hasBit (w .hosted .names) v ≡ true
-    hosts-named x =
-        w .hosted .candidates .all v (x .inside) (λ s h.
+    hosts-row-in : EdgeOf j may label t g v → hasBit (w .hosted .row) v ≡ true
+    hosts-row-in x =
+        w .hosted .candidates .all v (edge-inner deep part g v i x .inside) (λ s h.
         let l : s < j .steps = part .steps .below s (step s h) in
-        let r = x .realized .1 in
-        let i = mask-in (w .mask) s h in
-        let c : leader j (suc (t .q)) (x .realized .0 s) ≡ v
-        = leader-same j (suc (t .q)) _ v (fibre-at (hasBit (t .people)) (j .class (suc (t .q))) (j .class (suc (t .q)) v) _ (r .inside s l i)) ∙ x .leads
-        in
-        subst (λ (y : ℕ). hasBit (getD reach (t .q * 12 + s) 0) y ≡ true) c
-        (part .tables .offers .has (t .q) s _ (depth deep part) (has-below 12 (t .steps) s few (step s h)) (r .within s l i) (r .authorised s l i)))
+        let r = x .1 in
+        let k = mask-in (w .mask) s h in
+        subst (λ (y : ℕ). hasBit (getD reach (t .q * 12 + s) 0) y ≡ true)
+        (fibre-at (peopleIn j t) (j .class (suc (t .q))) v _ (r .inside s l k))
+        (part .tables .offers .has (t .q) s _ (depth deep part) (has-below 12 (t .steps) s few (step s h)) (r .within s l k) (r .authorised s l k)))
 
     hosts-row : EdgeOf j may label t g v → hasBit row v ≡ true
     hosts-row x =
+        let in-it = edge-inner deep part g v i x in
         by-cases (hasBit row v) (λ t. t)
-        (λ t. absurd (says-false (hasBit row v) _ (decided (hosts-named x) (x .person)) t (doable-masks deep part (x .person) (x .inside) g (w .mask) (x .realized))))
+        (λ t. absurd (says-false (hasBit row v) _ (decided (hosts-row-in x) in-it) t (doable-masks deep part in-it g (w .mask) x)))
 
   -- a plan makes a matching
   matched : Doable j may label t → (f : ℕ → ℕ) × Matching (j .steps) (groupsIn label t) (EdgeOf j may label t) f
   matched r =
-      realized-match j (mayIn may) (labelIn label) (t .q) (depth deep part) (hasBit (t .steps)) (hasBit (t .people))
-      (part .people .whole (suc (t .q)) (omega arith) (depth deep part)) r
-
-  group-below : (g : ℕ) → groupsIn label t g ≡ true → g < j .steps
-  group-below g i = part .steps .below g (groups-in (hasBit (t .steps)) (labelIn label (suc (t .q))) g i)
+      realized-match j (mayIn may) (labelIn label) (t .q) (depth deep part) (hasBit (t .steps)) (peopleIn j t) r
 
   module _ {heads : ℕ} (mask : Mask (groupsIn label t) heads) where
     -- with an empty row there is no plan
-    unhosted-not : Unhosted may label crowd reach t heads → Doable j may label t → ⊥
+    unhosted-not : Unhosted may label nest reach t heads → Doable j may label t → ⊥
     unhosted-not w r =
         let m = matched r in
         let i = mask-in mask (w .who) (w .among) in
-        true-false (hosts-row (m .0 (w .who)) (w .row) (m .1 .along (w .who) (group-below (w .who) i) i)) (empty-lacks (m .0 (w .who)))
+        true-false (hosts-row (m .0 (w .who)) (w .row) i (m .1 .along (w .who) (group-below deep part (w .who) i) i)) (empty-lacks (m .0 (w .who)))
 
     -- the same, once it is filled in
-    module _ {edges : List ℕ} (linked : Linked may label crowd reach t heads 0 edges) where
-      row-at : (g : ℕ) → groupsIn label t g ≡ true → Row may label crowd reach t g (getD edges g 0)
+    module _ {edges : List ℕ} (linked : Linked may label nest reach t heads 0 edges) where
+      row-at : (g : ℕ) → groupsIn label t g ≡ true → Row may label nest reach t g (getD edges g 0)
       row-at g i = linked .done g (mask-has mask g i) (empty-lacks g)
 
       in-groups : (g : ℕ) → inMask heads g ≡ true → groupsIn label t g ≡ true
@@ -183,10 +200,10 @@ module _ {j : Job} {may label crowd reach : List ℕ} {t : Task} (deep : t .q < 
           record {
             along = λ g h.
                 let i = in-groups g h in
-                let x = m .along g (group-below g i) i in
-                and-of (ltb (f g) 64) (hasBit (getD edges g 0) (f g)) (lt-ltb (f g) 64 (omega (arith, x .person, part .tables .few))) (hosts-row (f g) (row-at g i) x);
+                let x = m .along g (group-below deep part g i) i in
+                and-of (ltb (f g) 64) (hasBit (getD edges g 0) (f g)) (lt-ltb (f g) 64 (edge-inner deep part g (f g) i x .small)) (hosts-row (f g) (row-at g i) i x);
             apart = λ g h i k e.
-                m .injective g h (group-below g (in-groups g i)) (group-below h (in-groups h k)) (in-groups g i) (in-groups h k) e;
+                m .injective g h (group-below deep part g (in-groups g i)) (group-below deep part h (in-groups h k)) (in-groups g i) (in-groups h k) e;
           }
 
       covers-not : {found : Bool} {f : ℕ → ℕ} → Covers (inMask heads) (suits edges) found f → found ≡ false → Doable j may label t → ⊥
@@ -195,16 +212,16 @@ module _ {j : Job} {may label crowd reach : List ℕ} {t : Task} (deep : t .q < 
 -- ---- the answers of `cover`
 
 -- what is found is an assignment along the rows
-pub covering-assigned : {may label crowd reach : List ℕ} {t : Task} {found : Bool} {at : List ℕ} (w : Covering may label crowd reach t found at) → found ≡ true
-    → (edges : List ℕ) × Linked may label crowd reach t (w .heads) 0 edges × Assignment (inMask (w .heads)) (suits edges) (classAt at)
+pub covering-assigned : {may label nest reach : List ℕ} {t : Task} {found : Bool} {at : List ℕ} (w : Covering may label nest reach t found at) → found ≡ true
+    → (edges : List ℕ) × Linked may label nest reach t (w .heads) 0 edges × Assignment (inMask (w .heads)) (suits edges) (classAt at)
 covering-assigned w e = ⊎-elim (λ u. true-false e (u .0)) (λ x. (x .0, x .1, x .2 .sound e)) (w .answer)
 
-module _ {j : Job} {may label crowd reach : List ℕ} {t : Task} (deep : t .q < t .levels) (few : t .steps < 4096) (part : Part j may label crowd reach t)
-    {found : Bool} {at : List ℕ} (w : Covering may label crowd reach t found at) where
+module _ {j : Job} {may label nest reach : List ℕ} {t : Task} (deep : t .q < t .levels) (few : t .steps < 4096) (part : Part j may label nest reach t)
+    {found : Bool} {at : List ℕ} (w : Covering may label nest reach t found at) where
   covering-realized : found ≡ true → Doable j may label t
   covering-realized e =
       let a = covering-assigned w e in
-      match-realized j (mayIn may) (labelIn label) (t .q) (depth deep part) (hasBit (t .steps)) (hasBit (t .people)) (part .tables .refining)
+      match-realized j (mayIn may) (labelIn label) (t .q) (depth deep part) (hasBit (t .steps)) (peopleIn j t) (part .tables .refining)
       (part .steps .consistent) (part .steps .labelled (suc (t .q)) (omega arith) (depth deep part)) (classAt at)
       (assignment-matching deep few part (w .mask) (a .1) (classAt at) (a .2))
 
@@ -217,26 +234,37 @@ module _ {j : Job} {may label crowd reach : List ℕ} {t : Task} (deep : t .q < 
 
 -- ---- the answers of `decide`
 
-module _ {may label crowd reach : List ℕ} {t : Task} where
+-- after the last level the people of a task are those inside
+pub last-in : {j : Job} {may label nest reach : List ℕ} {t : Task} → t .levels ≤ t .q → Part j may label nest reach t → (p : ℕ)
+    → peopleIn j t p ≡ hasBit (t .inside) p
+last-in {j} {t = t} d part p =
+    let e : t .q ≡ j .levels = omega (arith, part .tables .depth, part .within) in
+    ap (hasBit (t .inside)) (ap (λ (x : ℕ). j .class (suc x) p) e ∙ part .tables .person p)
+
+pub last-below : {j : Job} {may label nest reach : List ℕ} {t : Task} → t .levels ≤ t .q → Part j may label nest reach t → (p : ℕ)
+    → hasBit (t .inside) p ≡ true → p < j .people
+last-below {j} {t = t} d part p h = part .people (omega (arith, part .tables .depth, part .within)) p h
+
+module _ {may label nest reach : List ℕ} {t : Task} where
   -- no level left
-  pub decided-last : {r : Bool} → t .levels ≤ t .q → Says r (Staffing (mayIn may) (hasBit (t .people)) (t .steps) 0) → Decided may label crowd reach t r
+  pub decided-last : {r : Bool} → t .levels ≤ t .q → Says r (Staffing (mayIn may) (hasBit (t .inside)) (t .steps) 0) → Decided may label nest reach t r
   decided-last {r} d w = record {
     says = λ j part.
-        let last = realized-last j (mayIn may) (labelIn label) (t .q) (omega (arith, part .tables .depth)) (hasBit (t .steps)) (hasBit (t .people)) in
+        let last = realized-last j (mayIn may) (labelIn label) (t .q) (omega (arith, part .tables .depth)) (hasBit (t .steps)) (peopleIn j t) in
         says-of r _
         (λ e. let all = says-true r _ w e in
-        last .1 (λ s l h. let a = all .able s h (empty-lacks s) in (a .0, part .people .below (a .0) (a .1), a .1, a .2)))
+        last .1 (λ s l h. let a = all .able s h (empty-lacks s) in (a .0, last-below d part (a .0) (a .1), last-in d part (a .0) ∙ a .1, a .2)))
         (λ e x. says-false r _ w e (record {
           part = λ s h. true-false h (empty-lacks s);
           able = λ s h n.
               let l : s < j .steps = part .steps .below s h in
-              (x .0 s, x .1 .inside s l h, x .1 .authorised s l h);
+              (x .0 s, sym (last-in d part (x .0 s)) ∙ x .1 .inside s l h, x .1 .authorised s l h);
         }));
   }
 
   -- a matching, or none
-  pub decided-covering : {found : Bool} {at : List ℕ} → t .q < t .levels → t .steps < 4096 → Covering may label crowd reach t found at
-      → Decided may label crowd reach t found
+  pub decided-covering : {found : Bool} {at : List ℕ} → t .q < t .levels → t .steps < 4096 → Covering may label nest reach t found at
+      → Decided may label nest reach t found
   decided-covering {found} deep few w = record {
     says = λ j part. says-of found _ (covering-realized deep few part w) (covering-not deep few part w);
   }

@@ -1,14 +1,14 @@
--- From a set of steps and a set of people to a group and a class of the next level. Assumes nothing.
+-- From a set of steps to a group of the next level. Assumes nothing.
 use mathlib.Core.Bool.{Bool, true}
 use mathlib.Core.Path.{_≡_, sym, _∙_}
 use Prim.Native.Nat.{ℕ, suc, _+_, _<_}
 use native.Mathlib.Omega.{arith}
 use Rattle.workflow.specs.Problem.{Job}
-use Rattle.pattern.specs.Pattern.{Label, Labelled, Refining}
+use Rattle.pattern.specs.Pattern.{Label, Labelled}
 use Rattle.pattern.specs.Realize.{fibre}
-use Rattle.pattern.proofs.Levels.{refining-up, consistent-up}
+use Rattle.pattern.proofs.Levels.{consistent-up}
 use Rattle.pattern.proofs.Sets.{fibre-of, fibre-in, fibre-at}
-use Rattle.realize.specs.Parts.{Steps, People}
+use Rattle.realize.specs.Parts.{Steps}
 
 -- a group holds whole groups of the levels below its own
 pub steps-next : (j : Job) (label : Label) (q g : ℕ) (S G : ℕ → Bool) → q < j .levels → Steps j label q S
@@ -33,17 +33,3 @@ steps-next j label q g S G deep w e =
   where
     was : (s : ℕ) → G s ≡ true → S s ≡ true
     was s h = fibre-in S (label (suc q)) g s (sym (e s) ∙ h)
-
--- a class holds whole classes of the levels below its own
-pub people-next : (j : Job) (q k : ℕ) (C D : ℕ → Bool) → q < j .levels → Refining j → People j q C
-    → ((p : ℕ) → D p ≡ true → (C p ≡ true) × (j .class (suc q) p ≡ k)) → ((p : ℕ) → C p ≡ true → j .class (suc q) p ≡ k → D p ≡ true)
-    → People j (q + 1) D
-people-next j q k C D deep refining w was of =
-    record {
-      below = λ p h. w .below p (was p h .0);
-      whole = λ r a b. record {
-        classmate = λ p p′ l l′ e h.
-            of p′ (w .whole r (omega arith) b .classmate p p′ l l′ e (was p h .0))
-            (sym (refining-up j refining (suc q) r (omega arith) (omega arith) b p p′ l l′ e) ∙ was p h .1);
-      };
-    }

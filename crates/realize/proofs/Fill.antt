@@ -18,13 +18,13 @@ use Rattle.pattern.specs.Tables.{mayIn, labelIn, planIn}
 use Rattle.pattern.specs.Realize.{Realizes, Matching}
 use Rattle.pattern.proofs.Sets.{fibre-in, fibre-at}
 use Rattle.pattern.proofs.Realize.{realizes-agree, realizes-last, realizes-glue}
-use Rattle.pattern.proofs.Matching.{matching-differ}
 use Rattle.realize.specs.declared.parts.Task.{Task}
-use Rattle.realize.specs.Parts.{groupsIn, groupIn, groupTask, classTask}
+use Rattle.realize.specs.Parts.{peopleIn, groupsIn, groupIn, groupTask, classTask}
 use Rattle.realize.specs.Decision.{Covering}
 use Rattle.realize.specs.Filling.{Sends, StaffedBy, Filled, SentGroup, Sent}
 use Rattle.realize.proofs.Staff.{untouched}
-use Rattle.realize.proofs.Decide.{classmates, EdgeOf, depth, part-next, does-sets, doable-masks, assignment-matching, covering-assigned, covering-not}
+use Rattle.realize.proofs.Decide.{classmates, EdgeOf, depth, part-next, does-sets, doable-masks, edge-inner, assignment-matching, covering-assigned, covering-not}
+use Rattle.realize.proofs.Decide.{last-in, last-below}
 
 -- ---- the classes that an assignment gives
 
@@ -49,7 +49,7 @@ module _ (heads : ℕ) (edges at : List ℕ) (a : Assignment (inMask heads) (sui
       }
 
 -- `cover` does not return its mask of the groups, so any other serves
-pub class-given : {may label crowd reach : List ℕ} {t : Task} {found : Bool} {at : List ℕ} {heads : ℕ} → Covering may label crowd reach t found at → found ≡ true
+pub class-given : {may label nest reach : List ℕ} {t : Task} {found : Bool} {at : List ℕ} {heads : ℕ} → Covering may label nest reach t found at → found ≡ true
     → Mask (groupsIn label t) heads → heads < 4096 → (g : ℕ) → hasBit heads g ≡ true → getD at g 0 < 64
 class-given {at = at} {heads = heads} w e mask few g h =
     let a = covering-assigned w e in
@@ -58,15 +58,15 @@ class-given {at = at} {heads = heads} w e mask few g h =
 
 -- ---- the loop over the groups
 
-pub sent-none : {may label crowd reach : List ℕ} {t : Task} {heads : ℕ} {at plan : List ℕ} → Sent may label crowd reach t heads heads at plan plan
+pub sent-none : {may label nest reach : List ℕ} {t : Task} {heads : ℕ} {at plan : List ℕ} → Sent may label nest reach t heads heads at plan plan
 sent-none {t = t} {plan = plan} = record { kept = untouched (t .steps) plan; part = λ g h. h; done = λ g h n. true-false h n }
 
 -- the steps of one group get people, and those of the others keep theirs
-pub sent-next : {may label crowd reach : List ℕ} {t : Task} {heads rest : ℕ} {at before plan : List ℕ} {g rest′ group : ℕ} {plan′ : List ℕ}
-    → Sent may label crowd reach t heads rest at before plan → FirstAndRest rest g rest′ → Mask (groupIn label t g) group
-    → Filled may label crowd reach (classTask crowd (groupTask t group) (getD at g 0)) plan plan′
-    → Sent may label crowd reach t heads rest′ at before plan′
-sent-next {may} {label} {crowd} {reach} {t} {heads} {rest} {at} {before} {plan} {g} {rest′} {group} {plan′} w first mask new =
+pub sent-next : {may label nest reach : List ℕ} {t : Task} {heads rest : ℕ} {at before plan : List ℕ} {g rest′ group : ℕ} {plan′ : List ℕ}
+    → Sent may label nest reach t heads rest at before plan → FirstAndRest rest g rest′ → Mask (groupIn label t g) group
+    → Filled may label nest reach (classTask nest (groupTask t group) (getD at g 0)) plan plan′
+    → Sent may label nest reach t heads rest′ at before plan′
+sent-next {may} {label} {nest} {reach} {t} {heads} {rest} {at} {before} {plan} {g} {rest′} {group} {plan′} w first mask new =
     record {
       kept = record {
         sized = new .kept .sized ∙ w .kept .sized;
@@ -75,7 +75,7 @@ sent-next {may} {label} {crowd} {reach} {t} {heads} {rest} {at} {before} {plan} 
       part = λ k h. w .part k (taken-was first k h);
       done = λ k h n.
           by-cases (eqb k g)
-          (λ x. subst (λ (y : ℕ). SentGroup may label crowd reach t y (getD at y 0) plan′) (sym (eqb-true k g x))
+          (λ x. subst (λ (y : ℕ). SentGroup may label nest reach t y (getD at y 0) plan′) (sym (eqb-true k g x))
           (record { group = group; mask = mask; sends = new .sends }))
           (λ x. let d : k ≡ g → ⊥ = eqb-false k g x in
           let old = w .done k h (sym (removed-other (first .removed) k d) ∙ n) in
@@ -98,34 +98,34 @@ sent-next {may} {label} {crowd} {reach} {t} {heads} {rest} {at} {before} {plan} 
 
 -- ---- the promise of `fill`
 
-module _ {may label crowd reach : List ℕ} {t : Task} where
+module _ {may label nest reach : List ℕ} {t : Task} where
   -- no level left
-  pub filled-last : {before after : List ℕ} → t .levels ≤ t .q → StaffedBy (mayIn may) (hasBit (t .people)) (t .steps) 0 before after
-      → Filled may label crowd reach t before after
+  pub filled-last : {before after : List ℕ} → t .levels ≤ t .q → StaffedBy (mayIn may) (hasBit (t .inside)) (t .steps) 0 before after
+      → Filled may label nest reach t before after
   filled-last {before} {after} d w =
       record {
         kept = w .kept;
         sends = λ j part r.
-            realizes-last j (mayIn may) (labelIn label) (t .q) (omega (arith, part .tables .depth)) (hasBit (t .steps)) (hasBit (t .people)) (planIn after)
-            (λ s l h. let a = w .able s h (empty-lacks s) (r .0 s, r .1 .inside s l h, r .1 .authorised s l h) in
-            (part .people .below (planIn after s) (a .0), a .0, a .1));
+            realizes-last j (mayIn may) (labelIn label) (t .q) (omega (arith, part .tables .depth)) (hasBit (t .steps)) (peopleIn j t) (planIn after)
+            (λ s l h. let a = w .able s h (empty-lacks s) (r .0 s, sym (last-in d part (r .0 s)) ∙ r .1 .inside s l h, r .1 .authorised s l h) in
+            (last-below d part (planIn after s) (a .0), last-in d part (planIn after s) ∙ a .0, a .1));
       }
 
-  module _ {found : Bool} {at : List ℕ} (deep : t .q < t .levels) (few : t .steps < 4096) (w : Covering may label crowd reach t found at) where
+  module _ {found : Bool} {at : List ℕ} (deep : t .q < t .levels) (few : t .steps < 4096) (w : Covering may label nest reach t found at) where
     -- no matching: the steps cannot go to the people, and nothing is written
-    pub filled-none : {plan : List ℕ} → found ≡ false → Filled may label crowd reach t plan plan
+    pub filled-none : {plan : List ℕ} → found ≡ false → Filled may label nest reach t plan plan
     filled-none {plan} e = record { kept = untouched (t .steps) plan; sends = λ j part r. absurd (covering-not deep few part w e r) }
 
     -- a matching, and each group sent to its class
     pub filled-sent : {heads rest : ℕ} {before after : List ℕ} → found ≡ true → Mask (groupsIn label t) heads
-        → Sent may label crowd reach t heads rest at before after → rest ≡ 0 → Filled may label crowd reach t before after
+        → Sent may label nest reach t heads rest at before after → rest ≡ 0 → Filled may label nest reach t before after
     filled-sent {heads} {rest} {before} {after} e mask sent z = record { kept = sent .kept; sends = sends }
       where
-        sends : Sends may label crowd reach t after
+        sends : Sends may label nest reach t after
         sends j part r =
-            realizes-glue j (mayIn may) (labelIn label) (t .q) (depth deep part) (hasBit (t .steps)) (hasBit (t .people)) f (part .tables .refining)
+            realizes-glue j (mayIn may) (labelIn label) (t .q) (depth deep part) (hasBit (t .steps)) (peopleIn j t) f (part .tables .refining)
             (part .steps .consistent) (part .steps .labelled (suc (t .q)) (omega arith) (depth deep part))
-            (matching-differ j (suc (t .q)) (j .steps) _ (EdgeOf j may label t) f (λ g v l i x. x .leads) m) (planIn after) each
+            (m .injective) (planIn after) each
           where
             f : ℕ → ℕ
             f g = getD at g 0
@@ -137,6 +137,6 @@ module _ {may label crowd reach : List ℕ} {t : Task} where
                 → Realizes j (mayIn may) (labelIn label) (suc (t .q)) (groupIn label t g) (classmates j t (f g)) (planIn after)
             each g l i =
                 let x = m .along g l i in
+                let in-it = edge-inner deep part g (f g) i x in
                 let s = sent .done g (mask-has mask g i) (zero-empty rest z g) in
-                does-sets deep part (x .person) (x .inside) g (s .mask)
-                (s .sends j (part-next deep part (x .person) (x .inside) g (s .mask)) (doable-masks deep part (x .person) (x .inside) g (s .mask) (x .realized)))
+                does-sets deep part in-it g (s .mask) (s .sends j (part-next deep part in-it g (s .mask)) (doable-masks deep part in-it g (s .mask) x))

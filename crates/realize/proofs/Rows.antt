@@ -4,6 +4,7 @@ use mathlib.Core.List.{List}
 use mathlib.Core.Logic.{inl, inr}
 use mathlib.Core.Path.{_≡_, refl, sym, subst, ap, _∙_}
 use Prim.Native.Nat.{ℕ, suc, _+_, _*_, _≤_, _<_}
+use native.Mathlib.Numerals.{add-one}
 use native.Mathlib.Omega.{arith}
 use lib.Bits.{bitAnd}
 use lib.Dec.{eqb}
@@ -20,29 +21,28 @@ use Rattle.matching.specs.Assignment.{Covers, inMask, suits, classAt}
 use Rattle.workflow.specs.Problem.{Job, May}
 use Rattle.pattern.specs.Pattern.{Label}
 use Rattle.pattern.specs.Tables.{mayIn, labelIn}
-use Rattle.pattern.specs.Realize.{Realized, fibre, groups, leader}
+use Rattle.pattern.specs.Realize.{Realized, fibre, groups}
 use Rattle.pattern.proofs.Realize.{realized-last}
-use Rattle.pattern.proofs.Leader.{leader-below, leader-class}
 use Rattle.pattern.proofs.Sets.{fibre-in, groups-in}
 use Rattle.realize.specs.declared.parts.Task.{Task}
-use Rattle.realize.specs.Parts.{ArraysSized, groupsIn, groupIn, groupTask, classTask, TablesOf}
+use Rattle.realize.specs.Parts.{ArraysSized, peopleIn, groupsIn, groupIn, groupTask, classTask, TablesOf}
 use Rattle.realize.specs.Decision.{Decided, Candidates, Hosting, Hosted, Row, Linked, Covering}
 
 -- a group has no more steps than the set that it is part of
-pub group-sized : {levels : ℕ} {may label crowd reach : List ℕ} {steps group : ℕ} → ArraysSized levels may label crowd reach steps → (c : ℕ → ℕ) (g : ℕ)
-    → Mask (fibre (hasBit steps) c g) group → ArraysSized levels may label crowd reach group
+pub group-sized : {levels : ℕ} {may label nest reach : List ℕ} {steps group : ℕ} → ArraysSized levels may label nest reach steps → (c : ℕ → ℕ) (g : ℕ)
+    → Mask (fibre (hasBit steps) c g) group → ArraysSized levels may label nest reach group
 group-sized {steps = steps} {group = group} w c g m =
     record {
       deep = w .deep;
       masks = w .masks;
       labels = w .labels;
-      crowds = w .crowds;
+      nests = w .nests;
       reaches = w .reaches;
       below = omega (arith, w .below, part-le group steps (λ s h. fibre-in (hasBit steps) c g s (mask-in m s h)));
     }
 
 -- groups are steps
-pub heads-few : {levels : ℕ} {may label crowd reach : List ℕ} {steps heads : ℕ} → ArraysSized levels may label crowd reach steps → (c : ℕ → ℕ)
+pub heads-few : {levels : ℕ} {may label nest reach : List ℕ} {steps heads : ℕ} → ArraysSized levels may label nest reach steps → (c : ℕ → ℕ)
     → Mask (groups (hasBit steps) c) heads → heads < 4096
 heads-few {steps = steps} {heads = heads} w c m =
     omega (arith, w .below, part-le heads steps (λ g h. groups-in (hasBit steps) c g (mask-in m g h)))
@@ -81,16 +81,16 @@ realized-none j may label q S C none₁ = (
 
 -- ---- the classes that have somebody for each step
 
-pub candidates-none : (reach : List ℕ) (q group people : ℕ) → Candidates reach q group people group people
-candidates-none reach q group people =
-    record { part = λ s h. h; inside = λ v h. h; each = λ v s h k n. true-false k n; all = λ v h f. h }
+pub candidates-none : (reach : List ℕ) (q group inside : ℕ) → Candidates reach q group inside group inside
+candidates-none reach q group inside =
+    record { part = λ s h. h; among = λ v h. h; each = λ v s h k n. true-false k n; all = λ v h f. h }
 
-pub candidates-next : {reach : List ℕ} {q group people rest r s rest′ : ℕ} → Candidates reach q group people rest r → FirstAndRest rest s rest′
-    → Candidates reach q group people rest′ (bitAnd r (getD reach (q * 12 + s) 0))
-candidates-next {reach} {q} {group} {people} {rest} {r} {s} {rest′} w first =
+pub candidates-next : {reach : List ℕ} {q group inside rest r s rest′ : ℕ} → Candidates reach q group inside rest r → FirstAndRest rest s rest′
+    → Candidates reach q group inside rest′ (bitAnd r (getD reach (q * 12 + s) 0))
+candidates-next {reach} {q} {group} {inside} {rest} {r} {s} {rest′} w first =
     record {
       part = λ t h. w .part t (taken-was first t h);
-      inside = λ v h. w .inside v (and-bit-left r (getD reach (q * 12 + s) 0) v h);
+      among = λ v h. w .among v (and-bit-left r (getD reach (q * 12 + s) 0) v h);
       each = λ v t h k n.
           by-cases (eqb t s)
           (λ e. subst (λ (x : ℕ). hasBit (getD reach (q * 12 + x) 0) v ≡ true) (sym (eqb-true t s e)) (and-bit-right r (getD reach (q * 12 + s) 0) v h))
@@ -100,12 +100,12 @@ candidates-next {reach} {q} {group} {people} {rest} {r} {s} {rest′} w first =
           ∙ and-of (hasBit r v) (hasBit (getD reach (q * 12 + s) 0) v) (w .all v h f) (f s (w .part s (first .lowest .has)));
     }
 
-pub candidates-all : {reach : List ℕ} {q group people rest r : ℕ} → Candidates reach q group people rest r → rest ≡ 0 → Candidates reach q group people 0 r
-candidates-all {reach} {q} {group} {people} {rest} {r} w e = subst (λ (x : ℕ). Candidates reach q group people x r) e w
+pub candidates-all : {reach : List ℕ} {q group inside rest r : ℕ} → Candidates reach q group inside rest r → rest ≡ 0 → Candidates reach q group inside 0 r
+candidates-all {reach} {q} {group} {inside} {rest} {r} w e = subst (λ (x : ℕ). Candidates reach q group inside x r) e w
 
 -- ---- the classes that host a group
 
-pub hosting-none : {may label crowd reach : List ℕ} {t : Task} {names : ℕ} → Hosting may label crowd reach t names names 0
+pub hosting-none : {may label nest reach : List ℕ} {t : Task} {row : ℕ} → Hosting may label nest reach t row row 0
 hosting-none =
     record {
       part = λ v h. h;
@@ -114,10 +114,10 @@ hosting-none =
       done = λ v h n. true-false h n;
     }
 
-module _ {may label crowd reach : List ℕ} {t : Task} {names rest r v rest′ : ℕ} (w : Hosting may label crowd reach t names rest r)
+module _ {may label nest reach : List ℕ} {t : Task} {row rest r v rest′ : ℕ} (w : Hosting may label nest reach t row rest r)
     (first : FirstAndRest rest v rest′) where
   -- class v does not host the group
-  pub hosting-skip : {d : Bool} → Decided may label crowd reach (classTask crowd t v) d → d ≡ false → Hosting may label crowd reach t names rest′ r
+  pub hosting-skip : {d : Bool} → Decided may label nest reach (classTask nest t v) d → d ≡ false → Hosting may label nest reach t row rest′ r
   hosting-skip d e =
       record {
         part = λ u h. w .part u (taken-was first u h);
@@ -125,68 +125,72 @@ module _ {may label crowd reach : List ℕ} {t : Task} {names rest r v rest′ :
         left = λ u h. w .left u (taken-was first u h);
         done = λ u h n.
             by-cases (eqb u v)
-            (λ x. subst (λ (y : ℕ). Decided may label crowd reach (classTask crowd t y) (hasBit r y)) (sym (eqb-true u v x))
-            (subst (Decided may label crowd reach (classTask crowd t v)) (e ∙ sym (w .left v (first .lowest .has))) d))
+            (λ x. subst (λ (y : ℕ). Decided may label nest reach (classTask nest t y) (hasBit r y)) (sym (eqb-true u v x))
+            (subst (Decided may label nest reach (classTask nest t v)) (e ∙ sym (w .left v (first .lowest .has))) d))
             (λ x. w .done u h (sym (removed-other (first .removed) u (eqb-false u v x)) ∙ n));
       }
 
   -- class v hosts it
-  pub hosting-take : {d : Bool} {r′ : ℕ} → Decided may label crowd reach (classTask crowd t v) d → d ≡ true → Added r v r′
-      → Hosting may label crowd reach t names rest′ r′
+  pub hosting-take : {d : Bool} {r′ : ℕ} → Decided may label nest reach (classTask nest t v) d → d ≡ true → Added r v r′
+      → Hosting may label nest reach t row rest′ r′
   hosting-take {d} {r′} x e more =
       record {
         part = λ u h. w .part u (taken-was first u h);
         only = λ u h.
             by-cases (eqb u v)
-            (λ t. subst (λ (y : ℕ). hasBit names y ≡ true) (sym (eqb-true u v t)) (w .part v (first .lowest .has)))
+            (λ t. subst (λ (y : ℕ). hasBit row y ≡ true) (sym (eqb-true u v t)) (w .part v (first .lowest .has)))
             (λ t. w .only u (sym (added-other more u (eqb-false u v t)) ∙ h));
         left = λ u h. added-other more u (removed-differs (first .removed) u h) ∙ w .left u (taken-was first u h);
         done = λ u h n.
             by-cases (eqb u v)
-            (λ z. subst (λ (y : ℕ). Decided may label crowd reach (classTask crowd t y) (hasBit r′ y)) (sym (eqb-true u v z))
-            (subst (Decided may label crowd reach (classTask crowd t v)) (e ∙ sym (added-has more)) x))
+            (λ z. subst (λ (y : ℕ). Decided may label nest reach (classTask nest t y) (hasBit r′ y)) (sym (eqb-true u v z))
+            (subst (Decided may label nest reach (classTask nest t v)) (e ∙ sym (added-has more)) x))
             (λ z. let y : u ≡ v → ⊥ = eqb-false u v z in
-            subst (Decided may label crowd reach (classTask crowd t u)) (sym (added-other more u y))
+            subst (Decided may label nest reach (classTask nest t u)) (sym (added-other more u y))
             (w .done u h (sym (removed-other (first .removed) u y) ∙ n)));
       }
 
-pub hosting-all : {may label crowd reach : List ℕ} {t : Task} {names rest r : ℕ} → Hosting may label crowd reach t names rest r → rest ≡ 0
-    → Hosting may label crowd reach t names 0 r
-hosting-all {may} {label} {crowd} {reach} {t} {names} {rest} {r} w e = subst (λ (x : ℕ). Hosting may label crowd reach t names x r) e w
+pub hosting-all : {may label nest reach : List ℕ} {t : Task} {row rest r : ℕ} → Hosting may label nest reach t row rest r → rest ≡ 0
+    → Hosting may label nest reach t row 0 r
+hosting-all {may} {label} {nest} {reach} {t} {row} {rest} {r} w e = subst (λ (x : ℕ). Hosting may label nest reach t row x r) e w
+
+-- what lies inside a class, one level down
+pub part-at : (j : Job) (nest : List ℕ) (t : Task) (v p : ℕ)
+    → peopleIn j (classTask nest t v) p ≡ hasBit (getD nest (t .q * 64 + v) 0) (j .class (suc (suc (t .q))) p)
+part-at j nest t v p = ap (λ (x : ℕ). hasBit (getD nest (t .q * 64 + v) 0) (j .class (suc x) p)) (add-one (t .q))
 
 module _ {reach : List ℕ} {t : Task} {row : ℕ} (few : t .steps < 4096) (deep : t .q < t .levels)
-    (w : Candidates reach (t .q) (t .steps) (t .people) 0 row) where
+    (w : Candidates reach (t .q) (t .steps) (t .inside) 0 row) where
   -- in the class of a candidate each step has somebody
-  able : {j : Job} {may crowd : List ℕ} → TablesOf j (t .levels) may crowd reach → (v s : ℕ) → hasBit row v ≡ true → hasBit (t .steps) s ≡ true
-      → (p : ℕ) × (p < j .people) × (hasBit (getD crowd (t .q * 64 + v) 0) p ≡ true) × (mayIn may s p ≡ true)
-  able {j} {may} {crowd} tables v s h k =
+  able : {j : Job} {may nest : List ℕ} → TablesOf j (t .levels) may nest reach → (v s : ℕ) → hasBit row v ≡ true → hasBit (t .steps) s ≡ true
+      → (p : ℕ) × (p < j .people) × (peopleIn j (classTask nest t v) p ≡ true) × (mayIn may s p ≡ true)
+  able {j} {may} {nest} tables v s h k =
       let d : t .q < j .levels = omega (arith, tables .depth) in
       let o = tables .offers .only (t .q) s v d (has-below 12 (t .steps) s few k) (w .each v s h k (empty-lacks s)) in (
         o .0,
         o .1,
-        subst (λ (x : ℕ). hasBit (getD crowd (t .q * 64 + x) 0) (o .0) ≡ true) (o .3)
-            (tables .crowd-has (t .q) (leader j (suc (t .q)) (o .0)) (o .0) d (leader-below j (suc (t .q)) (o .0) (o .1)) (o .1)
-            (sym (leader-class j (suc (t .q)) (o .0) (o .1)))),
+        part-at j nest t v (o .0)
+            ∙ subst (λ (x : ℕ). hasBit (getD nest (t .q * 64 + x) 0) (j .class (suc (suc (t .q))) (o .0)) ≡ true) (o .3) (tables .nest-has (t .q) (o .0) d (o .1)),
         o .2,
       )
 
-module _ {may label crowd reach : List ℕ} {t : Task} {row : ℕ} (few : t .steps < 4096) (deep : t .q < t .levels)
-    (w : Candidates reach (t .q) (t .steps) (t .people) 0 row) where
-  all-host : ((v : ℕ) → hasBit row v ≡ true → Decided may label crowd reach (classTask crowd t v) true) → Hosted may label crowd reach t row
+module _ {may label nest reach : List ℕ} {t : Task} {row : ℕ} (few : t .steps < 4096) (deep : t .q < t .levels)
+    (w : Candidates reach (t .q) (t .steps) (t .inside) 0 row) where
+  all-host : ((v : ℕ) → hasBit row v ≡ true → Decided may label nest reach (classTask nest t v) true) → Hosted may label nest reach t row
   all-host f =
       record {
-        names = row;
+        row = row;
         candidates = w;
         hosting = record {
           part = λ v h. true-false h (empty-lacks v);
           only = λ v h. h;
           left = λ v h. true-false h (empty-lacks v);
-          done = λ v h n. subst (Decided may label crowd reach (classTask crowd t v)) (sym h) (f v h);
+          done = λ v h n. subst (Decided may label nest reach (classTask nest t v)) (sym h) (f v h);
         };
       }
 
   -- at the last level no more is asked
-  pub hosted-last : t .levels ≤ t .q + 1 → Hosted may label crowd reach t row
+  pub hosted-last : t .levels ≤ t .q + 1 → Hosted may label nest reach t row
   hosted-last last =
       all-host (λ v h. record {
         says = λ j part.
@@ -195,7 +199,7 @@ module _ {may label crowd reach : List ℕ} {t : Task} {row : ℕ} (few : t .ste
       })
 
   -- one step goes to anybody who may do it
-  pub hosted-single : {g : ℕ} (rest : ℕ) → Removed (t .steps) g rest → rest ≡ 0 → Hosted may label crowd reach t row
+  pub hosted-single : {g : ℕ} (rest : ℕ) → Removed (t .steps) g rest → rest ≡ 0 → Hosted may label nest reach t row
   hosted-single {g} rest gone e =
       all-host (λ v h. record {
         says = λ j part.
@@ -210,46 +214,46 @@ module _ {may label crowd reach : List ℕ} {t : Task} {row : ℕ} (few : t .ste
       only s k = by-cases (eqb s g) (λ x. eqb-true s g x) (λ x. true-false (removed-other gone s (eqb-false s g x) ∙ k) (zero-empty rest e s))
 
   -- else each class is tried
-  pub hosted-tried : {rest r : ℕ} → Hosting may label crowd reach t row rest r → rest ≡ 0 → Hosted may label crowd reach t r
-  hosted-tried {rest} {r} x e = record { names = row; candidates = w; hosting = hosting-all x e }
+  pub hosted-tried : {rest r : ℕ} → Hosting may label nest reach t row rest r → rest ≡ 0 → Hosted may label nest reach t r
+  hosted-tried {rest} {r} x e = record { row = row; candidates = w; hosting = hosting-all x e }
 
 -- ---- the rows of the groups
 
-pub linked-none : {may label crowd reach : List ℕ} {t : Task} {heads : ℕ} {edges : List ℕ} → length edges ≡ 12 → Linked may label crowd reach t heads heads edges
+pub linked-none : {may label nest reach : List ℕ} {t : Task} {heads : ℕ} {edges : List ℕ} → length edges ≡ 12 → Linked may label nest reach t heads heads edges
 linked-none l = record { sized = l; part = λ g h. h; done = λ g h n. true-false h n }
 
 -- group g has its row
-pub linked-next : {may label crowd reach : List ℕ} {t : Task} {heads rest : ℕ} {edges : List ℕ} {g rest′ group row : ℕ}
-    → Linked may label crowd reach t heads rest edges → FirstAndRest rest g rest′ → g < 12 → Mask (groupIn label t g) group
-    → Hosted may label crowd reach (groupTask t group) row → Linked may label crowd reach t heads rest′ (set edges g row)
-linked-next {may} {label} {crowd} {reach} {t} {heads} {rest} {edges} {g} {rest′} {group} {row} w first l mask hosted =
+pub linked-next : {may label nest reach : List ℕ} {t : Task} {heads rest : ℕ} {edges : List ℕ} {g rest′ group row : ℕ}
+    → Linked may label nest reach t heads rest edges → FirstAndRest rest g rest′ → g < 12 → Mask (groupIn label t g) group
+    → Hosted may label nest reach (groupTask t group) row → Linked may label nest reach t heads rest′ (set edges g row)
+linked-next {may} {label} {nest} {reach} {t} {heads} {rest} {edges} {g} {rest′} {group} {row} w first l mask hosted =
     record {
       sized = length-set edges g row ∙ w .sized;
       part = λ k h. w .part k (taken-was first k h);
       done = λ k h n.
           by-cases (eqb k g)
-          (λ x. subst (λ (y : ℕ). Row may label crowd reach t y (getD (set edges g row) y 0)) (sym (eqb-true k g x))
-          (subst (Row may label crowd reach t g) (sym (getD-set-same edges g row 0 (omega (arith, w .sized))))
+          (λ x. subst (λ (y : ℕ). Row may label nest reach t y (getD (set edges g row) y 0)) (sym (eqb-true k g x))
+          (subst (Row may label nest reach t g) (sym (getD-set-same edges g row 0 (omega (arith, w .sized))))
           (record { group = group; mask = mask; hosted = hosted })))
           (λ x. let d : k ≡ g → ⊥ = eqb-false k g x in
-          subst (Row may label crowd reach t k) (sym (getD-set-other edges g k row 0 d))
+          subst (Row may label nest reach t k) (sym (getD-set-other edges g k row 0 d))
           (w .done k h (sym (removed-other (first .removed) k d) ∙ n)));
     }
 
-module _ {may label crowd reach : List ℕ} {t : Task} {heads : ℕ} (groups-mask : Mask (groupsIn label t) heads) {rest : ℕ} {edges : List ℕ}
-    (w : Linked may label crowd reach t heads rest edges) where
+module _ {may label nest reach : List ℕ} {t : Task} {heads : ℕ} (groups-mask : Mask (groupsIn label t) heads) {rest : ℕ} {edges : List ℕ}
+    (w : Linked may label nest reach t heads rest edges) where
   -- each group has its row
-  pub covering-all : {found : Bool} {at : List ℕ} → rest ≡ 0 → Covers (inMask heads) (suits edges) found (classAt at) → Covering may label crowd reach t found at
+  pub covering-all : {found : Bool} {at : List ℕ} → rest ≡ 0 → Covers (inMask heads) (suits edges) found (classAt at) → Covering may label nest reach t found at
   covering-all e covers =
       record {
         heads = heads;
         mask = groups-mask;
-        answer = inr (edges, subst (λ (x : ℕ). Linked may label crowd reach t heads x edges) e w, covers);
+        answer = inr (edges, subst (λ (x : ℕ). Linked may label nest reach t heads x edges) e w, covers);
       }
 
   -- a group whose row is empty
   pub covering-none : {g group row : ℕ} {at : List ℕ} → Lowest rest g → Mask (groupIn label t g) group
-      → Hosted may label crowd reach (groupTask t group) row → row ≡ 0 → Covering may label crowd reach t false at
+      → Hosted may label nest reach (groupTask t group) row → row ≡ 0 → Covering may label nest reach t false at
   covering-none {g} {group} low mask hosted e =
       record {
         heads = heads;
@@ -259,7 +263,7 @@ module _ {may label crowd reach : List ℕ} {t : Task} {heads : ℕ} (groups-mas
           record {
             who = g;
             among = w .part g (low .has);
-            row = record { group = group; mask = mask; hosted = subst (λ (x : ℕ). Hosted may label crowd reach (groupTask t group) x) e hosted };
+            row = record { group = group; mask = mask; hosted = subst (λ (x : ℕ). Hosted may label nest reach (groupTask t group) x) e hosted };
           },
         );
       }

@@ -27,28 +27,28 @@ pub record StaffedBy (may : May) (C : ℕ → Bool) (steps rest : ℕ) (before a
 
 -- the plan sends the steps to the people, where they can go to them
 abbrev pub Sends : List ℕ → List ℕ → List ℕ → List ℕ → Task → List ℕ → Type 0
-Sends may label crowd reach t plan = (j : Job) → Part j may label crowd reach t → Doable j may label t → Does j may label t (planIn plan)
+Sends may label nest reach t plan = (j : Job) → Part j may label nest reach t → Doable j may label t → Does j may label t (planIn plan)
 
 -- the promise of `fill`
-pub record Filled (may label crowd reach : List ℕ) (t : Task) (before after : List ℕ) : Type 0 where
+pub record Filled (may label nest reach : List ℕ) (t : Task) (before after : List ℕ) : Type 0 where
   pub kept : Untouched (t .steps) before after
-  pub sends : Sends may label crowd reach t after
+  pub sends : Sends may label nest reach t after
 
--- group g goes to the class named v
-pub record SentGroup (may label crowd reach : List ℕ) (t : Task) (g v : ℕ) (plan : List ℕ) : Type 0 where
+-- group g goes to class v
+pub record SentGroup (may label nest reach : List ℕ) (t : Task) (g v : ℕ) (plan : List ℕ) : Type 0 where
   pub group : ℕ
   pub mask : Mask (groupIn label t g) group
-  pub sends : Sends may label crowd reach (classTask crowd (groupTask t group) v) plan
+  pub sends : Sends may label nest reach (classTask nest (groupTask t group) v) plan
 
 -- each group of `heads`, but for `rest`, goes to the class that `at` has for it
-pub record Sent (may label crowd reach : List ℕ) (t : Task) (heads rest : ℕ) (at before after : List ℕ) : Type 0 where
+pub record Sent (may label nest reach : List ℕ) (t : Task) (heads rest : ℕ) (at before after : List ℕ) : Type 0 where
   pub kept : Untouched (t .steps) before after
   pub part : (g : ℕ) → hasBit rest g ≡ true → hasBit heads g ≡ true
-  pub done : (g : ℕ) → hasBit heads g ≡ true → hasBit rest g ≡ false → SentGroup may label crowd reach t g (getD at g 0) after
+  pub done : (g : ℕ) → hasBit heads g ≡ true → hasBit rest g ≡ false → SentGroup may label nest reach t g (getD at g 0) after
 
 -- the promise of `realize`: where the pattern can be realized, the plan does it
-pub record Realizing (people levels : ℕ) (may label crowd reach : List ℕ) (placed : ℕ) (before after : List ℕ) : Type 0 where
+pub record Realizing (people levels : ℕ) (may label nest reach : List ℕ) (placed : ℕ) (before after : List ℕ) : Type 0 where
   pub kept : Untouched placed before after
-  pub realizes : (j : Job) → TablesFor j people levels may label crowd reach placed
+  pub realizes : (j : Job) → TablesFor j people levels may label nest reach placed
       → Realized j (mayIn may) (labelIn label) 0 (hasBit placed) (λ p. true)
       → Realizes j (mayIn may) (labelIn label) 0 (hasBit placed) (λ p. true) (planIn after)

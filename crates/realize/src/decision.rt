@@ -4,11 +4,11 @@ use crate::parts::Task;
 use crate::parts::groups_of;
 use crate::parts::members;
 use bits::set;
-use bits::sizes::Crowds;
 use bits::sizes::Domains;
 use bits::sizes::Labels;
 use bits::sizes::MOST_PEOPLE;
 use bits::sizes::MOST_STEPS;
+use bits::sizes::Nest;
 use bits::sizes::Reach;
 use bits::small;
 use matching::Cover;
@@ -39,12 +39,12 @@ fn staffed(may: &Domains, steps: u16, people: u64) -> bool
     true
 }
 
-// Those of `people` that name a class of level `q` + 1 with somebody for each step of a group.
-fn candidates(reach: &Reach, q: usize, group: u16, people: u64) -> u64
+// Those classes of `inside`, of level `q` + 1, that have somebody for each step of a group.
+fn candidates(reach: &Reach, q: usize, group: u16, inside: u64) -> u64
     requires { ⌜ (length (now reach) ≡ 36) × (q < 3) × (group < 4096) ⌝ }
-    ensures { λ r. ⌜ Candidates (now (reach .entry)) q group people 0 r ⌝ }
+    ensures { λ r. ⌜ Candidates (now (reach .entry)) q group inside 0 r ⌝ }
 {
-    let mut found = people;
+    let mut found = inside;
     let mut rest = group;
     while rest != 0 {
         let next = small::take(rest);
@@ -55,13 +55,13 @@ fn candidates(reach: &Reach, q: usize, group: u16, people: u64) -> u64
     found
 }
 
-// The classes of level `q` + 1 inside the people that can host the steps, which are group `g`. Where
+// The classes of level `q` + 1 inside that can host the steps, which are group `g`. Where
 // each step has somebody, one step asks no more, nor does the last level.
-fn hosts(may: &Domains, label: &Labels, crowd: &Crowds, reach: &Reach, task: Task, g: usize) -> u64
-    requires { ⌜ ArraysSized (task .levels) (now may) (now label) (now crowd) (now reach) (task .steps) × (task .q < task .levels) × (g < 16) ⌝ }
-    ensures { λ r. ⌜ Hosted (now (may .entry)) (now (label .entry)) (now (crowd .entry)) (now (reach .entry)) task r ⌝ }
+fn hosts(may: &Domains, label: &Labels, nest: &Nest, reach: &Reach, task: Task, g: usize) -> u64
+    requires { ⌜ ArraysSized (task .levels) (now may) (now label) (now nest) (now reach) (task .steps) × (task .q < task .levels) × (g < 16) ⌝ }
+    ensures { λ r. ⌜ Hosted (now (may .entry)) (now (label .entry)) (now (nest .entry)) (now (reach .entry)) task r ⌝ }
 {
-    let row = candidates(reach, task.q, task.steps, task.people);
+    let row = candidates(reach, task.q, task.steps, task.inside);
     if task.levels <= task.q + 1 {
         return row;
     }
@@ -75,14 +75,14 @@ fn hosts(may: &Domains, label: &Labels, crowd: &Crowds, reach: &Reach, task: Tas
         rest = next.rest;
         let v = next.first;
         let q = task.q + 1;
-        let people = crowd[task.q * MOST_PEOPLE + v];
-        let inside = Task {
+        let inside = nest[task.q * MOST_PEOPLE + v];
+        let part = Task {
             levels: task.levels,
             q: q,
             steps: task.steps,
-            people: people,
+            inside: inside,
         };
-        if !decide(may, label, crowd, reach, inside) {
+        if !decide(may, label, nest, reach, part) {
             continue;
         }
         found = set::with(found, v);
@@ -92,9 +92,9 @@ fn hosts(may: &Domains, label: &Labels, crowd: &Crowds, reach: &Reach, task: Tas
 
 // A class for each group of level `q` + 1 inside the steps, among those that can host it and none
 // twice, where there are enough. A group without a host ends the search.
-pub fn cover(may: &Domains, label: &Labels, crowd: &Crowds, reach: &Reach, task: Task) -> Cover
-    requires { ⌜ ArraysSized (task .levels) (now may) (now label) (now crowd) (now reach) (task .steps) × (task .q < task .levels) ⌝ }
-    ensures { λ r. ⌜ Covering (now (may .entry)) (now (label .entry)) (now (crowd .entry)) (now (reach .entry)) task (r .found) (r .at) ⌝ }
+pub fn cover(may: &Domains, label: &Labels, nest: &Nest, reach: &Reach, task: Task) -> Cover
+    requires { ⌜ ArraysSized (task .levels) (now may) (now label) (now nest) (now reach) (task .steps) × (task .q < task .levels) ⌝ }
+    ensures { λ r. ⌜ Covering (now (may .entry)) (now (label .entry)) (now (nest .entry)) (now (reach .entry)) task (r .found) (r .at) ⌝ }
 {
     let heads = groups_of(label, task.q, task.steps);
     let mut edges = [0u64; MOST_STEPS];
@@ -108,9 +108,9 @@ pub fn cover(may: &Domains, label: &Labels, crowd: &Crowds, reach: &Reach, task:
             levels: task.levels,
             q: task.q,
             steps: group,
-            people: task.people,
+            inside: task.inside,
         };
-        let row = hosts(may, label, crowd, reach, part, g);
+        let row = hosts(may, label, nest, reach, part, g);
         if row == 0 {
             return Cover {
                 found: false,
@@ -123,13 +123,13 @@ pub fn cover(may: &Domains, label: &Labels, crowd: &Crowds, reach: &Reach, task:
 }
 
 // Whether the steps can go to the people.
-pub fn decide(may: &Domains, label: &Labels, crowd: &Crowds, reach: &Reach, task: Task) -> bool
-    requires { ⌜ ArraysSized (task .levels) (now may) (now label) (now crowd) (now reach) (task .steps) ⌝ }
-    ensures { λ r. ⌜ Decided (now (may .entry)) (now (label .entry)) (now (crowd .entry)) (now (reach .entry)) task r ⌝ }
+pub fn decide(may: &Domains, label: &Labels, nest: &Nest, reach: &Reach, task: Task) -> bool
+    requires { ⌜ ArraysSized (task .levels) (now may) (now label) (now nest) (now reach) (task .steps) ⌝ }
+    ensures { λ r. ⌜ Decided (now (may .entry)) (now (label .entry)) (now (nest .entry)) (now (reach .entry)) task r ⌝ }
 {
     if task.levels <= task.q {
-        return staffed(may, task.steps, task.people);
+        return staffed(may, task.steps, task.inside);
     }
-    let cover = cover(may, label, crowd, reach, task);
+    let cover = cover(may, label, nest, reach, task);
     cover.found
 }

@@ -1,6 +1,6 @@
 // Whether a pattern is realizable, as section 3.3 of document 004 has it, and a plan that realizes it.
 // The tables are those of the search: `may` has a mask of people for each step, `label` has 12 entries a
-// level, `crowd` has the people of each person's class and `reach` the classes with somebody for each step.
+// level, `nest` has what lies inside each class and `reach` the classes with somebody for each step.
 mod decision;
 pub mod parts;
 mod plan;
@@ -10,9 +10,9 @@ use crate::decision::decide;
 use crate::parts::Task;
 use crate::plan::fill;
 use bits::set;
-use bits::sizes::Crowds;
 use bits::sizes::Domains;
 use bits::sizes::Labels;
+use bits::sizes::Nest;
 use bits::sizes::Plan;
 use bits::sizes::Reach;
 use pattern::Size;
@@ -23,7 +23,7 @@ ghost use Rattle.realize.specs.Parts.{ArraysSized, WholeTask};
 ghost use Rattle.realize.specs.Decision.{Realizable};
 ghost use Rattle.realize.specs.Filling.{Realizing};
 
-// What is asked at first: the placed steps are to go to anybody.
+// What is asked at first: the placed steps are to go to anybody. There are no more classes than people.
 fn whole(size: Size, placed: u16) -> Task
     requires { ⌜ size .people ≤ 64 ⌝ }
     ensures { λ r. ⌜ WholeTask (size .people) (size .levels) placed r ⌝ }
@@ -32,7 +32,7 @@ fn whole(size: Size, placed: u16) -> Task
         levels: size.levels,
         q: 0,
         steps: placed,
-        people: set::below(size.people),
+        inside: set::below(size.people),
     }
 }
 
@@ -41,14 +41,14 @@ pub fn realizable(
     size: Size,
     may: &Domains,
     label: &Labels,
-    crowd: &Crowds,
+    nest: &Nest,
     reach: &Reach,
     placed: u16,
 ) -> bool
-    requires { ⌜ ArraysSized (size .levels) (now may) (now label) (now crowd) (now reach) placed × (size .people ≤ 64) ⌝ }
-    ensures { λ r. ⌜ Realizable (size .people) (size .levels) (now (may .entry)) (now (label .entry)) (now (crowd .entry)) (now (reach .entry)) placed r ⌝ }
+    requires { ⌜ ArraysSized (size .levels) (now may) (now label) (now nest) (now reach) placed × (size .people ≤ 64) ⌝ }
+    ensures { λ r. ⌜ Realizable (size .people) (size .levels) (now (may .entry)) (now (label .entry)) (now (nest .entry)) (now (reach .entry)) placed r ⌝ }
 {
-    decide(may, label, crowd, reach, whole(size, placed))
+    decide(may, label, nest, reach, whole(size, placed))
 }
 
 // Writes a plan of the placed steps that realizes the pattern. The other steps keep their people; where
@@ -57,13 +57,13 @@ pub fn realize(
     size: Size,
     may: &Domains,
     label: &Labels,
-    crowd: &Crowds,
+    nest: &Nest,
     reach: &Reach,
     placed: u16,
     plan: &mut Plan,
 )
-    requires { ⌜ ArraysSized (size .levels) (now may) (now label) (now crowd) (now reach) placed × (size .people ≤ 64) × (length (now plan) ≡ 12) ⌝ }
-    ensures { λ r. ⌜ Realizing (size .people) (size .levels) (now (may .entry)) (now (label .entry)) (now (crowd .entry)) (now (reach .entry)) placed (now (plan .entry)) (now (plan .exit)) ⌝ }
+    requires { ⌜ ArraysSized (size .levels) (now may) (now label) (now nest) (now reach) placed × (size .people ≤ 64) × (length (now plan) ≡ 12) ⌝ }
+    ensures { λ r. ⌜ Realizing (size .people) (size .levels) (now (may .entry)) (now (label .entry)) (now (nest .entry)) (now (reach .entry)) placed (now (plan .entry)) (now (plan .exit)) ⌝ }
 {
-    fill(may, label, crowd, reach, whole(size, placed), plan);
+    fill(may, label, nest, reach, whole(size, placed), plan);
 }

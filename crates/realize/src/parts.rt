@@ -12,12 +12,13 @@ ghost use Rattle.pattern.specs.Tables.{labelIn};
 ghost use Rattle.pattern.specs.Realize.{fibre, groups};
 ghost use Rattle.bits.specs.Set.{Mask};
 
-// The steps are to go to the people, with the labels of the levels below `q`.
+// The steps are to go to the classes of level `q` + 1 that are inside, or after the last level to the people, with
+// the labels of the levels below `q`.
 pub struct Task {
     pub levels: usize,
     pub q: usize,
     pub steps: u16,
-    pub people: u64,
+    pub inside: u64,
 }
 
 // The label that is looked for at step `s`: with `own` that is the step itself, else `g`.

@@ -4,10 +4,10 @@ use crate::parts::Task;
 use crate::parts::groups_of;
 use crate::parts::members;
 use bits::set;
-use bits::sizes::Crowds;
 use bits::sizes::Domains;
 use bits::sizes::Labels;
 use bits::sizes::MOST_PEOPLE;
+use bits::sizes::Nest;
 use bits::sizes::Plan;
 use bits::sizes::Reach;
 use bits::small;
@@ -39,22 +39,15 @@ fn staff(may: &Domains, steps: u16, people: u64, plan: &mut Plan)
 
 // Gives the steps people, where they can go to them: each group of the next level gets people of the
 // class that a matching has for it.
-pub fn fill(
-    may: &Domains,
-    label: &Labels,
-    crowd: &Crowds,
-    reach: &Reach,
-    task: Task,
-    plan: &mut Plan,
-)
-    requires { ⌜ ArraysSized (task .levels) (now may) (now label) (now crowd) (now reach) (task .steps) × (length (now plan) ≡ 12) ⌝ }
-    ensures { λ r. ⌜ Filled (now (may .entry)) (now (label .entry)) (now (crowd .entry)) (now (reach .entry)) task (now (plan .entry)) (now (plan .exit)) ⌝ }
+pub fn fill(may: &Domains, label: &Labels, nest: &Nest, reach: &Reach, task: Task, plan: &mut Plan)
+    requires { ⌜ ArraysSized (task .levels) (now may) (now label) (now nest) (now reach) (task .steps) × (length (now plan) ≡ 12) ⌝ }
+    ensures { λ r. ⌜ Filled (now (may .entry)) (now (label .entry)) (now (nest .entry)) (now (reach .entry)) task (now (plan .entry)) (now (plan .exit)) ⌝ }
 {
     if task.levels <= task.q {
-        staff(may, task.steps, task.people, plan);
+        staff(may, task.steps, task.inside, plan);
         return;
     }
-    let cover = cover(may, label, crowd, reach, task);
+    let cover = cover(may, label, nest, reach, task);
     if !cover.found {
         return;
     }
@@ -68,13 +61,13 @@ pub fn fill(
         let v = at[g] as usize;
         let group = members(label, task.q, g as u8, task.steps);
         let q = task.q + 1;
-        let people = crowd[task.q * MOST_PEOPLE + v];
+        let inside = nest[task.q * MOST_PEOPLE + v];
         let part = Task {
             levels: task.levels,
             q: q,
             steps: group,
-            people: people,
+            inside: inside,
         };
-        fill(may, label, crowd, reach, part, plan);
+        fill(may, label, nest, reach, part, plan);
     }
 }

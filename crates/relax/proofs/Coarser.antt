@@ -1,6 +1,5 @@
 -- Over a scope the classes of a level are at most as many as those of a finer one. Assumes nothing.
 use mathlib.Core.Bool.{Bool}
-use mathlib.Core.Path.{sym, _∙_, ap}
 use Prim.Native.Nat.{ℕ, _≤_, _<_}
 use Rattle.bits.specs.Below.{count}
 use Rattle.bits.proofs.Counting.{count-at}
@@ -17,5 +16,4 @@ pub coarser : (steps people : ℕ) (scope : ℕ → Bool) (coarse fine : ℕ →
     → ((s : ℕ) → s < steps → π s < people)
     → distinct steps scope (λ s. coarse (π s)) ≤ distinct steps scope (λ s. fine (π s))
 coarser steps people scope coarse fine n π within =
-    distinct-finer steps scope _ _
-    (λ s t a b i k e. sym (n .up (π s) (within s a)) ∙ ap coarse e ∙ n .up (π t) (within t b))
+    distinct-finer steps scope _ _ (λ s t a b i k e. n .up (π s) (π t) (within s a) (within t b) e)

@@ -1,7 +1,7 @@
 -- What a rule says of another level. Assumes nothing.
 use mathlib.Core.List.{List}
-use mathlib.Core.Path.{_≡_, ap, _∙_}
-use Prim.Native.Nat.{ℕ, _≤_, _<_}
+use mathlib.Core.Path.{_≡_}
+use Prim.Native.Nat.{ℕ, _-_, _≤_, _<_}
 use native.Mathlib.Omega.{arith}
 use lib.Count.{ones}
 use lib.Dec.{eqb}
@@ -17,9 +17,8 @@ use Rattle.pattern.specs.declared.Size.{Size}
 use Rattle.pattern.specs.Given.{Classed}
 use Rattle.pattern.specs.Rule.{levelIn, leastIn, mostIn, scopeIn, unpacked, Packed}
 use Rattle.pattern.specs.Tables.{classIn, jobIn}
-use Rattle.pattern.proofs.Leader.{leader-below, leader-class}
 use Rattle.pattern.proofs.Levels.{refining-up}
-use Rattle.relax.specs.Bound.{Nests, numbered, Tally, together, Needs}
+use Rattle.relax.specs.Bound.{Nests, Counted, together, Needs}
 use Rattle.relax.specs.Relaxed.{Carriable, countAt, Follows}
 use Rattle.relax.proofs.Bounding.{bounded, needed}
 use Rattle.relax.proofs.Coarser.{some-class, coarser}
@@ -32,17 +31,10 @@ module _ (size : Size) (class rule : List ℕ) (given : Classed size class rule)
   nests : (a b : ℕ) → 1 ≤ a → a ≤ b → b ≤ size .levels → Nests (size .people) (classIn class a) (classIn class b)
   nests a b from l to =
       record {
-        coarse-below = λ p m. rw (given .leaders a p from (omega arith) m) (leader-below whole a p m);
-        fine-below = below;
-        own = own;
-        up = λ p m. refining-up whole (given .refining) a b from l to (classIn class b p) p (below p m) m (own p m);
+        coarse-number = λ p m. given .numbers a p from (omega arith) m;
+        fine-number = λ p m. given .numbers b p (omega arith) to m;
+        up = refining-up whole (given .refining) a b from l to;
       }
-    where
-      below : (p : ℕ) → p < size .people → classIn class b p < size .people
-      below p m = rw (given .leaders b p (omega arith) to m) (leader-below whole b p m)
-
-      own : (p : ℕ) → p < size .people → classIn class b (classIn class b p) ≡ classIn class b p
-      own p m = ap (classIn class b) (given .leaders b p (omega arith) to m) ∙ leader-class whole b p m
 
   -- each rule of a job can be carried
   pub carriable : (i : ℕ) → i < size .rules → (q : ℕ) → 1 ≤ q → q ≤ size .levels → Carriable size class (getD rule i 0) q
@@ -103,12 +95,13 @@ module _ {size : Size} {class : List ℕ} {r q : ℕ} (w : Carriable size class 
         let e = ones-bits (size .steps) (scopeIn r) (w .scope) in
         (at-least π within (m .least), omega arith))
 
-    module _ {ranks : List ℕ} (tally : Tally (size .people) (numbered (classIn class (levelIn r)) (classIn class q)) ranks) {s : ℕ} where
-      pub follows-limited : together ranks (mostIn r) 63 < size .steps → Packed q (leastIn r) (together ranks (mostIn r) 63) (scopeIn r) s → Follows size class q r s
+    module _ {classes : ℕ} {counts : List ℕ} (counted : Counted (size .people) (classIn class (levelIn r)) (classIn class q) classes counts) {s : ℕ} where
+      pub follows-limited : together counts (mostIn r) (classes - 1) < size .steps → Packed q (leastIn r) (together counts (mostIn r) (classes - 1)) (scopeIn r) s
+          → Follows size class q r s
       follows-limited l p =
           follows-of p (omega arith) (omega arith) (λ π within m. (
             at-least π within (m .least),
-            bounded (size .people) (w .few-people) _ _ nested (size .steps) (hasBit (scopeIn r)) π within ranks tally (mostIn r) (m .most),
+            bounded (size .people) (w .few-people) _ _ nested (size .steps) (hasBit (scopeIn r)) π within classes counts counted (mostIn r) (m .most),
           ))
 
       pub follows-all : Packed q (leastIn r) (size .steps) (scopeIn r) s → Follows size class q r s
@@ -138,11 +131,11 @@ module _ {size : Size} {class : List ℕ} {r q : ℕ} (w : Carriable size class 
             let k = some-class (size .steps) (hasBit (scopeIn r)) (λ t. classIn class q (π t)) (omega (arith, w .rule-ok .reachable)) in
             omega arith)
 
-    pub follows-several : {ranks : List ℕ} {m s : ℕ} → Tally (size .people) (numbered (classIn class q) (classIn class (levelIn r))) ranks → 1 ≤ leastIn r
-        → Needs ranks (leastIn r) m → Packed q m (mostIn r) (scopeIn r) s → Follows size class q r s
-    follows-several {ranks} {m} tally l n p =
+    pub follows-several : {classes : ℕ} {counts : List ℕ} {m s : ℕ} → Counted (size .people) (classIn class q) (classIn class (levelIn r)) classes counts
+        → 1 ≤ leastIn r → Needs counts (classes - 1) (leastIn r) m → Packed q m (mostIn r) (scopeIn r) s → Follows size class q r s
+    follows-several {classes} {counts} {m} counted l n p =
         follows-of p (n .to) (w .rule-ok .bounded) (λ π within k. (
-          needed (size .people) (w .few-people) _ _ outer (size .steps) (hasBit (scopeIn r)) π within ranks tally (leastIn r) m n
+          needed (size .people) (w .few-people) _ _ outer (size .steps) (hasBit (scopeIn r)) π within classes counts counted (leastIn r) m n
               (some-class (size .steps) (hasBit (scopeIn r)) _ (omega (arith, w .rule-ok .reachable))) (k .least),
           at-most π within (k .most),
         ))

@@ -9,7 +9,6 @@ use Rattle.bits.specs.Word.{hasBit}
 use Rattle.workflow.specs.Problem.{RuleOk, Job, Plan, Met, InBounds, distinct}
 use Rattle.pattern.specs.declared.Size.{Size}
 use Rattle.pattern.specs.Given.{Ruled, Classed}
-use Rattle.pattern.specs.Realize.{nameOf, leader}
 use Rattle.pattern.specs.Rule.{levelIn, scopeIn, unpacked}
 use Rattle.pattern.specs.Tables.{classIn, jobIn}
 use Rattle.relax.specs.Relaxed.{Carries, Relaxes}
@@ -37,11 +36,6 @@ module _ (size : Size) (class rule : List ℕ) (given : Classed size class rule)
       (subst (λ (k : ℕ). InBounds (unpacked (getD rule′ i 0)) (distinct (size .steps) (hasBit (scopeIn (getD rule i 0))) (λ s. classIn class k (π s)))) (sym (f .level))
       (f .met π within m))
 
-  -- names of classes do not depend on rules
-  leaders-now : (r p : ℕ) → 1 ≤ r → r ≤ size .levels → p < size .people → classIn class r p ≡ leader relaxed r p
-  unfolding nameOf
-  leaders-now r p a b l = given .leaders r p a b l
-
   ruled-now : Ruled size rule′
   ruled-now =
       record {
@@ -62,7 +56,7 @@ module _ (size : Size) (class rule : List ℕ) (given : Classed size class rule)
           few-people = given .few-people;
           classes = given .classes;
           refining = record { finer = given .refining .finer };
-          leaders = leaders-now;
+          numbers = given .numbers;
         };
         valid = λ may π v. record { within = v .within; authorised = v .authorised; eligible = λ i l. relaxed-met i l π (v .within) (v .eligible i l) };
       }

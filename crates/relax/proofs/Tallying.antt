@@ -1,7 +1,7 @@
--- The fine classes counted person by person, and what some coarse classes have together number by number. Assumes nothing.
-use mathlib.Core.Bool.{Bool, true, false, cond}
+-- The fine classes counted person by person, and what some coarse classes have together rank by rank. Assumes nothing.
+use mathlib.Core.Bool.{Bool, true, false, cond, _&&_}
 use mathlib.Core.List.{List}
-use mathlib.Core.Path.{_≡_, refl, sym, subst, _∙_}
+use mathlib.Core.Path.{_≡_, refl, sym, subst, ap, _∙_}
 use Prim.Native.Nat.{ℕ, zero, suc, _+_, _-_, _≤_, _<_}
 use native.Mathlib.Numerals.{add-one}
 use native.Mathlib.Omega.{arith}
@@ -11,7 +11,10 @@ use lib.Seq.{getD-set-same, getD-set-other}
 use borrow.Author.Tests.{eqb-true, eqb-false, eq-eqb, lt-ltb, le-ltb}
 use Rattle.bits.proofs.Below.{by-cases, and-left, and-right}
 use Rattle.bits.proofs.Counting.{and-of, is-false, count-true, count-false, count-zero, count-le}
-use Rattle.relax.specs.Bound.{inside, rank, numbered, Tally, together, Needs}
+use Rattle.workflow.proofs.Counts.{distinct-le}
+use Rattle.pattern.specs.Number.{firstUse, classesBefore}
+use Rattle.pattern.proofs.Number.{met-new, met-old, number-first, number-old, number-few}
+use Rattle.relax.specs.Bound.{Nests, inside, rank, ofRank, Tally, Counted, together, Needs}
 
 module _ (f : ℕ → ℕ → Bool) where
   pub tally-none : Tally 0 f (replicate {A = ℕ} 64 0)
@@ -39,94 +42,132 @@ module _ (f : ℕ → ℕ → Bool) where
     pub tally-le : (e : ℕ) → e < 64 → getD tally e 0 ≤ n
     tally-le e l = let a = count-le n (f e) in omega (arith, w .each e l)
 
--- the fine classes that the first n people name, by coarse class and by number
-pub record Ranking (n : ℕ) (coarse fine : ℕ → ℕ) (sizes counts : List ℕ) : Type 0 where
-  pub by-class : Tally n (inside coarse fine) sizes
-  pub by-number : Tally n (numbered coarse fine) counts
+-- the numbers of classes are below the number of people
+module _ {people : ℕ} {coarse fine : ℕ → ℕ} (nests : Nests people coarse fine) where
+  pub coarse-below : (p : ℕ) → p < people → coarse p < people
+  coarse-below p l = omega (arith, nests .coarse-number p l, number-few people coarse p l)
 
-module _ (coarse fine : ℕ → ℕ) where
-  pub ranking-none : Ranking 0 coarse fine (replicate {A = ℕ} 64 0) (replicate {A = ℕ} 64 0)
-  ranking-none = record { by-class = tally-none (inside coarse fine); by-number = tally-none (numbered coarse fine) }
+  pub fine-below : (p : ℕ) → p < people → fine p < people
+  fine-below p l = omega (arith, nests .fine-number p l, number-few people fine p l)
 
-  module _ (n : ℕ) (sizes counts : List ℕ) (w : Ranking n coarse fine sizes counts) where
-    -- a person who names no fine class
-    pub ranking-past : (fine n ≡ n → ⊥) → Ranking (n + 1) coarse fine sizes counts
-    ranking-past d =
+-- and there are at most as many classes as people
+pub classes-few : {people : ℕ} {coarse fine : ℕ → ℕ} {classes : ℕ} {counts : List ℕ} → people ≤ 64 → Counted people coarse fine classes counts → classes ≤ 64
+classes-few {people} {fine = fine} few w = omega (arith, w .all, distinct-le people (λ p. true) fine)
+
+-- the fine classes met at the first n people, by coarse class and by rank
+pub record Ranking (people n : ℕ) (coarse fine : ℕ → ℕ) (met : ℕ) (sizes counts : List ℕ) : Type 0 where
+  pub so-far : met ≡ classesBefore fine n
+  pub by-class : Tally n (inside people coarse fine) sizes
+  pub by-rank : Tally n (ofRank people coarse fine) counts
+
+pub ranking-none : (people : ℕ) (coarse fine : ℕ → ℕ) → Ranking people 0 coarse fine 0 (replicate {A = ℕ} 64 0) (replicate {A = ℕ} 64 0)
+ranking-none people coarse fine =
+    record {
+      so-far = omega (arith, distinct-le 0 (λ p. true) fine);
+      by-class = tally-none (inside people coarse fine);
+      by-rank = tally-none (ofRank people coarse fine);
+    }
+
+module _ {people n : ℕ} {coarse fine : ℕ → ℕ} {met : ℕ} {sizes counts : List ℕ} (w : Ranking people n coarse fine met sizes counts) where
+  pub met-le : met ≤ n
+  met-le = omega (arith, w .so-far, distinct-le n (λ p. true) fine)
+
+  pub ranked : n ≡ people → Counted people coarse fine met counts
+  ranked e =
+      record { all = w .so-far ∙ ap (classesBefore fine) e; by-rank = subst (λ (k : ℕ). Tally k (ofRank people coarse fine) counts) e (w .by-rank) }
+
+  module _ (few : people ≤ 64) (nests : Nests people coarse fine) (below : n < people) where
+    -- a class that was met before
+    pub ranking-past : (fine n ≡ met → ⊥) → Ranking people (n + 1) coarse fine met sizes counts
+    ranking-past old =
         record {
-          by-class = tally-past (inside coarse fine) n sizes (w .by-class) (λ e. is-false _ (λ h. d (eqb-true _ _ (and-left (eqb (fine n) n) _ h))));
-          by-number = tally-past (numbered coarse fine) n counts (w .by-number) (λ e. is-false _ (λ h. d (eqb-true _ _ (and-left (eqb (fine n) n) _ h))));
+          so-far = rw (add-one n) (w .so-far ∙ sym (met-old people fine n below again));
+          by-class = tally-past (inside people coarse fine) n sizes (w .by-class) (λ e. not-first _);
+          by-rank = tally-past (ofRank people coarse fine) n counts (w .by-rank) (λ e. not-first _);
         }
+      where
+        again : firstUse people fine n ≡ n → ⊥
+        again e = old (nests .fine-number n below ∙ number-first people fine n e ∙ sym (w .so-far))
 
-    pub ranked : (people : ℕ) → n ≡ people → Tally people (numbered coarse fine) counts
-    ranked people e = subst (λ (k : ℕ). Tally k (numbered coarse fine) counts) e (w .by-number)
+        not-first : (b : Bool) → eqb (firstUse people fine n) n && b ≡ false
+        not-first b = is-false _ (λ h. again (eqb-true _ _ (and-left (eqb (firstUse people fine n) n) b h)))
 
-    -- a person who names one
-    module _ (below : n < 64) (names : fine n ≡ n) (inner : coarse n < 64) where
-      pub next-few : getD sizes (coarse n) 0 < 64
-      next-few = let a = tally-le (inside coarse fine) n sizes (w .by-class) (coarse n) inner in omega arith
+    -- a new class
+    module _ (new : fine n ≡ met) where
+      is-first : firstUse people fine n ≡ n
+      is-first =
+          by-cases (eqb (firstUse people fine n) n) (λ t. eqb-true _ _ t)
+          (λ t. absurd (omega (arith, number-old people fine n below (eqb-false _ _ t), nests .fine-number n below, w .so-far)))
 
-      pub count-few : (r : ℕ) → r < 64 → getD counts r 0 < 64
-      count-few r l = let a = tally-le (numbered coarse fine) n counts (w .by-number) r l in omega arith
+      pub coarse-few : coarse n < 64
+      coarse-few = omega (arith, coarse-below nests n below)
 
-      next : getD sizes (coarse n) 0 ≡ rank coarse fine n
+      pub rank-few : getD sizes (coarse n) 0 < 64
+      rank-few = omega (arith, tally-le (inside people coarse fine) n sizes (w .by-class) (coarse n) coarse-few)
+
+      pub count-few : getD counts (getD sizes (coarse n) 0) 0 < 64
+      count-few = omega (arith, tally-le (ofRank people coarse fine) n counts (w .by-rank) (getD sizes (coarse n) 0) rank-few)
+
+      its-rank : getD sizes (coarse n) 0 ≡ rank people coarse fine n
       unfolding rank
-      next = w .by-class .each (coarse n) inner
+      its-rank = w .by-class .each (coarse n) coarse-few
 
-      pub ranking-more : Ranking (n + 1) coarse fine (set sizes (coarse n) (getD sizes (coarse n) 0 + 1))
+      pub ranking-more : Ranking people (n + 1) coarse fine (met + 1) (set sizes (coarse n) (getD sizes (coarse n) 0 + 1))
           (set counts (getD sizes (coarse n) 0) (getD counts (getD sizes (coarse n) 0) 0 + 1))
       ranking-more =
           record {
-            by-class = tally-more (inside coarse fine) n sizes (w .by-class) (coarse n) inner
-                (and-of _ _ (eq-eqb (fine n) n names) (eq-eqb (coarse n) (coarse n) refl))
-                (λ e d. is-false _ (λ h. d (sym (eqb-true _ _ (and-right (eqb (fine n) n) _ h)))));
-            by-number = tally-more (numbered coarse fine) n counts (w .by-number) (getD sizes (coarse n) 0) next-few
-                (and-of _ _ (eq-eqb (fine n) n names) (eq-eqb (rank coarse fine n) (getD sizes (coarse n) 0) (sym next)))
-                (λ e d. is-false _ (λ h. d (sym (eqb-true _ _ (and-right (eqb (fine n) n) _ h)) ∙ sym next)));
+            so-far = rw (add-one n) (omega (arith, w .so-far, met-new people fine n below is-first));
+            by-class = tally-more (inside people coarse fine) n sizes (w .by-class) (coarse n) coarse-few
+                (and-of _ _ (eq-eqb (firstUse people fine n) n is-first) (eq-eqb (coarse n) (coarse n) refl))
+                (λ e d. is-false _ (λ h. d (sym (eqb-true _ _ (and-right (eqb (firstUse people fine n) n) _ h)))));
+            by-rank = tally-more (ofRank people coarse fine) n counts (w .by-rank) (getD sizes (coarse n) 0) rank-few
+                (and-of _ _ (eq-eqb (firstUse people fine n) n is-first) (eq-eqb (rank people coarse fine n) (getD sizes (coarse n) 0) (sym its-rank)))
+                (λ e d. is-false _ (λ h. d (sym (eqb-true _ _ (and-right (eqb (firstUse people fine n) n) _ h)) ∙ sym its-rank)));
           }
 
-module _ (ranks : List ℕ) (m : ℕ) where
-  pub together-zero : together ranks m 0 ≡ m
+module _ (counts : List ℕ) (m : ℕ) where
+  pub together-zero : together counts m 0 ≡ m
   unfolding together
   together-zero = refl
 
-  -- as many as m, and as have the next number
+  -- as many as m, and as have the next rank
   least : ℕ → ℕ
-  least r = cond (ltb (getD ranks r 0) m) (getD ranks r 0) m
+  least r = cond (ltb (getD counts r 0) m) (getD counts r 0) m
 
-  together-suc : (r : ℕ) → together ranks m (suc r) ≡ together ranks m r + least (suc r)
+  together-suc : (r : ℕ) → together counts m (suc r) ≡ together counts m r + least (suc r)
   unfolding together least
   together-suc r = refl
 
-  together-next : (r sum x : ℕ) → 1 ≤ r → sum ≡ together ranks m (r - 1) → least r ≡ x → sum + x ≡ together ranks m (r + 1 - 1)
+  together-next : (r sum x : ℕ) → 1 ≤ r → sum ≡ together counts m (r - 1) → least r ≡ x → sum + x ≡ together counts m (r + 1 - 1)
   together-next zero sum x l e h = absurd (omega arith)
   together-next (suc r) sum x l e h =
       let a : suc r + 1 - 1 ≡ suc r = omega arith in
       let b : suc r - 1 ≡ r = omega arith in
-      let d : together ranks m (suc r) ≡ together ranks m r + least (suc r) = together-suc r in
+      let d : together counts m (suc r) ≡ together counts m r + least (suc r) = together-suc r in
       cc
 
-  pub together-all : (r sum : ℕ) → 1 ≤ r → sum ≡ together ranks m (r - 1) → getD ranks r 0 < m → sum + getD ranks r 0 ≡ together ranks m (r + 1 - 1)
+  pub together-all : (r sum : ℕ) → 1 ≤ r → sum ≡ together counts m (r - 1) → getD counts r 0 < m → sum + getD counts r 0 ≡ together counts m (r + 1 - 1)
   unfolding least
-  together-all r sum a e l = together-next r sum (getD ranks r 0) a e (rw (lt-ltb (getD ranks r 0) m l) refl)
+  together-all r sum a e l = together-next r sum (getD counts r 0) a e (rw (lt-ltb (getD counts r 0) m l) refl)
 
-  pub together-part : (r sum : ℕ) → 1 ≤ r → sum ≡ together ranks m (r - 1) → m ≤ getD ranks r 0 → sum + m ≡ together ranks m (r + 1 - 1)
+  pub together-part : (r sum : ℕ) → 1 ≤ r → sum ≡ together counts m (r - 1) → m ≤ getD counts r 0 → sum + m ≡ together counts m (r + 1 - 1)
   unfolding least
-  together-part r sum a e l = together-next r sum m a e (rw (le-ltb (getD ranks r 0) m l) refl)
+  together-part r sum a e l = together-next r sum m a e (rw (le-ltb (getD counts r 0) m l) refl)
 
-  pub together-end : (r sum : ℕ) → sum ≡ together ranks m (r - 1) → r ≡ 64 → sum ≡ together ranks m 63
-  together-end r sum e l = let a : r - 1 ≡ 63 = omega arith in cc
+  pub together-end : (r sum last : ℕ) → sum ≡ together counts m (r - 1) → r - 1 ≡ last → sum ≡ together counts m last
+  together-end r sum last e l = cc
 
   -- m or more in all
-  pub together-from : (r : ℕ) → m ≤ together ranks m r
+  pub together-from : (r : ℕ) → m ≤ together counts m r
   unfolding together
   together-from zero = omega arith
   together-from (suc r) = let a = together-from r in omega arith
 
-module _ (ranks : List ℕ) (k : ℕ) where
-  pub needs-one : 1 ≤ k → Needs ranks k 1
+module _ (counts : List ℕ) (last k : ℕ) where
+  pub needs-one : 1 ≤ k → Needs counts last k 1
   needs-one l = record { from = omega arith; to = l; fewer = λ m a b. absurd (omega arith) }
 
-  pub needs-more : (r : ℕ) → Needs ranks k r → r < k → together ranks r 63 < k → Needs ranks k (r + 1)
+  pub needs-more : (r : ℕ) → Needs counts last k r → r < k → together counts r last < k → Needs counts last k (r + 1)
   needs-more r w l b =
       record {
         from = omega arith;
@@ -137,5 +178,5 @@ module _ (ranks : List ℕ) (k : ℕ) where
             (λ t. let e : m ≡ r → ⊥ = eqb-false m r t in w .fewer m a (omega arith));
       }
 
-  pub needs-all : (r : ℕ) → r ≡ k → Needs ranks k r → Needs ranks k k
-  needs-all r e w = subst (λ (x : ℕ). Needs ranks k x) e w
+  pub needs-all : (r : ℕ) → r ≡ k → Needs counts last k r → Needs counts last k k
+  needs-all r e w = subst (λ (x : ℕ). Needs counts last k x) e w

@@ -26,8 +26,8 @@ fn to_finer(size: Size, class: &Classes, r: u32, q: usize) -> u32
     if u16::count_ones(rule::scope(r)) as usize <= highest {
         return rule::moved(r, q);
     }
-    let counts = ranks(size.people, class, rule::level(r), q);
-    let b = most(&counts, highest as u8);
+    let found = ranks(size.people, class, rule::level(r), q);
+    let b = most(&found.counts, found.classes, highest as u8);
     if size.steps <= b {
         return rule::pack(q, rule::least(r), size.steps, rule::scope(r));
     }
@@ -43,8 +43,8 @@ fn to_coarser(size: Size, class: &Classes, r: u32, q: usize) -> u32
     if lowest < 2 {
         return rule::moved(r, q);
     }
-    let counts = ranks(size.people, class, q, rule::level(r));
-    let m = fewest(&counts, lowest as u8);
+    let found = ranks(size.people, class, q, rule::level(r));
+    let m = fewest(&found.counts, found.classes, lowest as u8);
     rule::pack(q, m as usize, rule::most(r), rule::scope(r))
 }
 

@@ -13,23 +13,26 @@ use Rattle.bits.proofs.Below.{by-cases, true-false, and-left, and-right}
 use Rattle.bits.proofs.Counting.{is-false, count-none}
 use Rattle.bits.proofs.SetLaws.{empty-lacks, zero-empty, part-le}
 use Rattle.workflow.specs.Problem.{Job, May, Plan, Valid, Satisfiable, InBounds}
+use Rattle.workflow.specs.Same.{SamePlans}
 use Rattle.workflow.proofs.Valid.{valid-agree}
 use Rattle.pattern.specs.declared.Size.{Size}
 use Rattle.pattern.specs.Eligible.{groupCount, openCount, Possible, AllNamed}
 use Rattle.pattern.specs.Realize.{Realizes, Realized}
 use Rattle.pattern.specs.Search.{Searchable, Exists, completed}
-use Rattle.pattern.specs.Tables.{mayIn, labelIn, planIn, jobIn}
+use Rattle.pattern.specs.Tables.{mayIn, labelIn, planIn, jobWith, nestedJob}
 use Rattle.pattern.proofs.Patterns.{nothing-pattern}
 use Rattle.pattern.proofs.Search.{exists-nothing, exists-possible, completed-placed, completed-other, completed-exists}
 use Rattle.bits.specs.Says.{Says}
 use Rattle.bits.specs.Set.{Mask}
 use Rattle.bits.proofs.Masks.{mask-has, mask-in}
 use Rattle.bits.proofs.Says.{says-true, says-false}
+use Rattle.pattern.specs.Pattern.{Refining}
 use Rattle.pattern.proofs.Given.{searchable}
+use Rattle.pattern.proofs.Nested.{nested-refining}
 use Rattle.eligible.specs.Rules.{ForSteps, Among}
 use Rattle.levels.specs.Tabled.{Naming}
 use Rattle.realize.specs.Parts.{ArraysSized, Offers}
-use Rattle.pattern.specs.Given.{Given}
+use Rattle.pattern.specs.Given.{Ruled, Nest}
 use Rattle.search.specs.Existence.{Named, AllStaffed, GivesFirst, Existence}
 use Rattle.search.specs.State.{Patterned, Reached, Completed, FindOutcome}
 use Rattle.realize.specs.Filling.{Realizing}
@@ -101,11 +104,11 @@ reached-valid {j} {may} {placed} {label} ok w π r others =
     named : AllNamed j (hasBit placed)
     named i s a l h = w .named i s a l h (empty-lacks s)
 
-module _ {size : Size} {crowd rule : List ℕ}
-    (given : Given size crowd rule) (may : List ℕ) where
+-- a job of these counts and rules, whatever its classes
+module _ {size : Size} {class : ℕ → ℕ → ℕ} {rule : List ℕ} (ruled : Ruled size rule) (may : List ℕ) where
   -- a step that nobody may do
   pub existence-unstaffed : (plan : List ℕ) → length plan ≡ 12 → (r : Bool) → Says r (AllStaffed (size .steps) (size .people) may) → not r ≡ true
-      → Existence (jobIn size crowd rule) (mayIn may) plan plan false
+      → Existence (jobWith size class rule) (mayIn may) plan plan false
   existence-unstaffed plan e r says f =
       record {
         sized = e;
@@ -115,28 +118,28 @@ module _ {size : Size} {crowd rule : List ℕ}
       }
 
   -- a rule that cannot be met
-  pub existence-ruled-out : (plan label : List ℕ) → length plan ≡ 12 → (all : ℕ) → Mask (λ i. ltb i (size .rules)) all → (r : Bool)
-      → ForSteps all rule (λ steps. Says r (Among steps all rule 0 label)) → not r ≡ true → Existence (jobIn size crowd rule) (mayIn may) plan plan false
-  existence-ruled-out plan label e all mask r says f =
-      let n = says-false r (Among (size .steps) all rule 0 label) (says (size .steps) (λ i h. given .ruled .scopes i (all-below mask i h))) (not-true r f) in
-      let j = jobIn size crowd rule in
+  pub existence-ruled-out : Refining (jobWith size class rule) → (plan label : List ℕ) → length plan ≡ 12 → (all : ℕ) → Mask (λ i. ltb i (size .rules)) all → (r : Bool)
+      → ForSteps all rule (λ steps. Says r (Among steps all rule 0 label)) → not r ≡ true → Existence (jobWith size class rule) (mayIn may) plan plan false
+  existence-ruled-out refining plan label e all mask r says f =
+      let n = says-false r (Among (size .steps) all rule 0 label) (says (size .steps) (λ i h. ruled .scopes i (all-below mask i h))) (not-true r f) in
+      let j = jobWith size class rule in
       record {
         sized = e;
         won = λ t. true-false refl (sym t);
         lost = λ t w. n (λ i h.
-            exists-possible j (mayIn may) (hasBit 0) (labelIn label) (searchable given) (nothing-exists j (mayIn may) label w) i (all-below mask i h));
+            exists-possible j (mayIn may) (hasBit 0) (labelIn label) (searchable ruled refining) (nothing-exists j (mayIn may) label w) i (all-below mask i h));
         kept = λ t. refl;
       }
 
-  pub start-patterned : (label : List ℕ) → length label ≡ 36 → Patterned (jobIn size crowd rule) 0 label
-  start-patterned label e = nothing-patterned (jobIn size crowd rule) (mayIn may) label e
+  pub start-patterned : (label : List ℕ) → length label ≡ 36 → Patterned (jobWith size class rule) 0 label
+  start-patterned label e = nothing-patterned (jobWith size class rule) (mayIn may) label e
 
   pub reached-start : (rest : ℕ) (of label : List ℕ) → length label ≡ 36 → (all : ℕ) → Mask (λ i. ltb i (size .rules)) all → (r : Bool)
       → ForSteps all rule (λ steps. Says r (Among steps all rule 0 label)) → not r ≡ false → Naming (size .rules) rule of → Named (size .steps) of rest
-      → Reached (jobIn size crowd rule) (mayIn may) 0 rest label
+      → Reached (jobWith size class rule) (mayIn may) 0 rest label
   reached-start rest of label e all mask r says f naming n =
-      let a = says-true r (Among (size .steps) all rule 0 label) (says (size .steps) (λ i h. given .ruled .scopes i (all-below mask i h))) (not-false r f) in
-      let j = jobIn size crowd rule in
+      let a = says-true r (Among (size .steps) all rule 0 label) (says (size .steps) (λ i h. ruled .scopes i (all-below mask i h))) (not-false r f) in
+      let j = jobWith size class rule in
       record {
         patterned = nothing-patterned j (mayIn may) label e;
         passed = record {
@@ -147,15 +150,15 @@ module _ {size : Size} {crowd rule : List ℕ}
         apart = λ s h. empty-lacks s;
         named = λ i s a l h k.
             is-false _
-            (λ t. true-false (naming .has i s a (omega (arith, given .ruled .few-steps)) t) (zero-empty (getD of s 0) (n .covers s l k) i));
+            (λ t. true-false (naming .has i s a (omega (arith, ruled .few-steps)) t) (zero-empty (getD of s 0) (n .covers s l k) i));
       }
 
   -- the search fails
   pub existence-lost : (plan label : List ℕ) {rest : ℕ} {last : List ℕ} (r : Bool) → length plan ≡ 12
-      → FindOutcome (jobIn size crowd rule) (mayIn may) 0 rest label last r → not r ≡ true
-      → Existence (jobIn size crowd rule) (mayIn may) plan plan false
+      → FindOutcome (jobWith size class rule) (mayIn may) 0 rest label last r → not r ≡ true
+      → Existence (jobWith size class rule) (mayIn may) plan plan false
   existence-lost plan label r e o f =
-      let j = jobIn size crowd rule in
+      let j = jobWith size class rule in
       record {
         sized = e;
         won = λ t. true-false refl (sym t);
@@ -163,29 +166,30 @@ module _ {size : Size} {crowd rule : List ℕ}
         kept = λ t. refl;
       }
 
-  -- the search succeeds: the steps named are placed
-  finished : {rest : ℕ} {label last : List ℕ} (r : Bool) → FindOutcome (jobIn size crowd rule) (mayIn may) 0 rest label last r
-      → not r ≡ false → Reached (jobIn size crowd rule) (mayIn may) rest 0 last
+-- the search succeeds: the steps named are placed
+module _ {size : Size} {nest rule : List ℕ} (given : Nest size nest rule) (may : List ℕ) where
+  finished : {rest : ℕ} {label last : List ℕ} (r : Bool) → FindOutcome (nestedJob size nest rule) (mayIn may) 0 rest label last r
+      → not r ≡ false → Reached (nestedJob size nest rule) (mayIn may) rest 0 last
   finished r o f = ended-reached (o .won (not-false r f))
 
   pub finished-sized : {rest : ℕ} {label last reach : List ℕ} (r : Bool) → length may ≡ 12
-      → FindOutcome (jobIn size crowd rule) (mayIn may) 0 rest label last r → not r ≡ false
-      → length reach ≡ 36 → ArraysSized (size .levels) may last crowd reach rest
-  finished-sized {rest} {label} {last} r e o f w = sized given may rest last e (finished r o f .patterned) w
+      → FindOutcome (nestedJob size nest rule) (mayIn may) 0 rest label last r → not r ≡ false
+      → length reach ≡ 36 → ArraysSized (size .levels) may last nest reach rest
+  finished-sized {rest} {label} {last} r e o f w = sized (given .ruled) may rest last e (finished r o f .patterned) (given .sized) w
 
-  pub existence-won : {reach : List ℕ} → Offers (jobIn size crowd rule) may reach → {rest : ℕ} {label last plan plan′ : List ℕ}
+  pub existence-won : {reach : List ℕ} → Offers (nestedJob size nest rule) may reach → {rest : ℕ} {label last plan plan′ : List ℕ}
       (first : List ℕ) (a r : Bool) → Says a (AllStaffed (size .steps) (size .people) may) → not a ≡ false
-      → FindOutcome (jobIn size crowd rule) (mayIn may) 0 rest label last r → not r ≡ false → GivesFirst (size .steps) may plan
-      → Realizing (size .people) (size .levels) may last crowd reach rest plan plan′
-      → Existence (jobIn size crowd rule) (mayIn may) first plan′ true
+      → FindOutcome (nestedJob size nest rule) (mayIn may) 0 rest label last r → not r ≡ false → GivesFirst (size .steps) may plan
+      → Realizing (size .people) (size .levels) may last nest reach rest plan plan′
+      → Existence (nestedJob size nest rule) (mayIn may) first plan′ true
   existence-won offers {rest} {label} {last} {plan} {plan′} first a r says f o g spread filled =
       let all = says-true a (AllStaffed (size .steps) (size .people) may) says (not-false a f) in
       let w = finished r o g in
       record {
         sized = filled .kept .sized ∙ spread .sized;
         won = λ t.
-            reached-valid (searchable given) w (planIn plan′)
-            (filled .realizes (jobIn size crowd rule) (known given may rest last offers (w .patterned)) (w .passed .realized))
+            reached-valid (searchable (given .ruled) (nested-refining size nest rule)) w (planIn plan′)
+            (filled .realizes (nestedJob size nest rule) (known given may rest last offers (w .patterned)) (w .passed .realized))
             (λ s l h.
             let x = all s l in
             let f = spread .each s l in
@@ -195,3 +199,13 @@ module _ {size : Size} {crowd rule : List ℕ}
         lost = λ t. true-false refl t;
         kept = λ t. true-false refl t;
       }
+
+-- what is found of a job is found of every other with the same plans
+pub existence-moves : {j j′ : Job} → SamePlans j j′ → (may : May) {plan plan′ : List ℕ} {r : Bool} → Existence j′ may plan plan′ r → Existence j may plan plan′ r
+existence-moves same may {plan′ = plan′} x =
+    record {
+      sized = x .sized;
+      won = λ e. same .valid may (planIn plan′) .1 (x .won e);
+      lost = λ e (π, v). x .lost e (π, same .valid may π .0 v);
+      kept = x .kept;
+    }

@@ -19,16 +19,14 @@ use Rattle.bits.proofs.Below.{by-cases, true-false, and-left, and-right}
 use Rattle.bits.proofs.Counting.{and-of, is-false, count-true, count-false, count-zero, count-grows}
 use Rattle.bits.proofs.Ones.{ones-bits}
 use Rattle.bits.proofs.SetLaws.{empty-lacks, or-bit, xor-bit, has-below, added-has, added-keeps, added-other, removed-was, removed-differs}
-use Rattle.workflow.specs.Problem.{Job, Valid, opens, distinct}
+use Rattle.workflow.specs.Problem.{Valid, opens, distinct}
 use Rattle.workflow.proofs.Counts.{opens-scope, opens-new}
 use Rattle.matching.specs.Assignment.{Assignment, Covers, inMask, suits}
 use Rattle.pattern.specs.declared.Size.{Size}
 use Rattle.pattern.specs.Rule.{levelIn, leastIn, scopeIn}
-use Rattle.pattern.specs.Tables.{classIn, mayIn, jobIn}
-use Rattle.pattern.specs.Realize.{leader}
-use Rattle.pattern.proofs.Leader.{leader-le, names-distinct}
+use Rattle.pattern.specs.Tables.{mayIn, jobWith}
 use Rattle.realize.specs.Parts.{Offers}
-use Rattle.pattern.specs.Given.{Given}
+use Rattle.pattern.specs.Given.{Ruled}
 use Rattle.search.specs.Existence.{Existence}
 use Rattle.search.specs.Limits.{Gathering, Extra, Extras, Edges, Manned, ReachesLeast, Limits}
 
@@ -357,38 +355,31 @@ module _ {steps rules : ℕ} {rule reach : List ℕ} where
   pub limits-passed : Limits steps rules rule reach true
   limits-passed = record { unreached = λ e. true-false refl e }
 
-module _ {size : Size} {crowd rule : List ℕ} (given : Given size crowd rule) (may : List ℕ) {reach : List ℕ} (offers : Offers (jobIn size crowd rule) may reach) where
-  abbrev j : Job
-  j = jobIn size crowd rule
-
-  -- the classes of a valid plan, by name, have somebody for the steps
-  manned : (π : ℕ → ℕ) → Valid (jobIn size crowd rule) (mayIn may) π → (q scope : ℕ) → 1 ≤ q → q ≤ size .levels
-      → Manned (size .steps) reach (q - 1) scope (λ s. leader j q (π s))
+module _ {size : Size} {class : ℕ → ℕ → ℕ} {rule : List ℕ} (ruled : Ruled size rule)
+    (small : (q p : ℕ) → 1 ≤ q → q ≤ size .levels → p < size .people → class q p < 64)
+    (may : List ℕ) {reach : List ℕ} (offers : Offers (jobWith size class rule) may reach) where
+  -- the classes of a valid plan have somebody for the steps
+  manned : (π : ℕ → ℕ) → Valid (jobWith size class rule) (mayIn may) π → (q scope : ℕ) → 1 ≤ q → q ≤ size .levels
+      → Manned (size .steps) reach (q - 1) scope (λ s. class q (π s))
   manned π ok q scope from to s l h =
       let e : suc (q - 1) ≡ q = omega arith in (
-        omega (arith, leader-le j q (π s), ok .within s l, given .few-people),
-        subst (λ (x : ℕ). hasBit (getD reach ((q - 1) * 12 + s) 0) (leader j x (π s)) ≡ true) e
-            (offers .has (q - 1) s (π s) (omega arith) (omega (arith, given .ruled .few-steps)) (ok .within s l) (ok .authorised s l)),
+        small q (π s) from to (ok .within s l),
+        subst (λ (x : ℕ). hasBit (getD reach ((q - 1) * 12 + s) 0) (class x (π s)) ≡ true) e
+            (offers .has (q - 1) s (π s) (omega arith) (omega (arith, ruled .few-steps)) (ok .within s l) (ok .authorised s l)),
       )
-
-  -- there are as many names as classes
-  names-count : (π : ℕ → ℕ) → ((s : ℕ) → s < size .steps → π s < size .people) → (q : ℕ) (scope : ℕ → Bool)
-      → distinct (size .steps) scope (λ s. classIn crowd q (π s)) ≡ distinct (size .steps) scope (λ s. leader j q (π s))
-  names-count π within q scope = sym (names-distinct (size .people) (classIn crowd q) (size .steps) scope π (λ s l h. within s l))
 
   -- a lower limit that is not reached
   pub existence-short : (plan : List ℕ) → length plan ≡ 12 → (r : Bool) → Limits (size .steps) (size .rules) rule reach r → not r ≡ true
-      → Existence (jobIn size crowd rule) (mayIn may) plan plan false
+      → Existence (jobWith size class rule) (mayIn may) plan plan false
   existence-short plan e r limits f =
       let u = limits .unreached (not-true r f) in
       let i = u .which in
-      let ok = given .ruled .rule-ok i (u .below) in
+      let ok = ruled .rule-ok i (u .below) in
       record {
         sized = e;
         won = λ t. true-false refl (sym t);
         lost = λ t x.
-            u .short .short refl (λ s. leader j (levelIn (getD rule i 0)) (x .0 s))
-            (manned (x .0) (x .1) (levelIn (getD rule i 0)) (scopeIn (getD rule i 0)) (ok .from) (ok .to))
-            (omega (arith, names-count (x .0) (x .1 .within) (levelIn (getD rule i 0)) (hasBit (scopeIn (getD rule i 0))), x .1 .eligible i (u .below) .least));
+            u .short .short refl (λ s. class (levelIn (getD rule i 0)) (x .0 s))
+            (manned (x .0) (x .1) (levelIn (getD rule i 0)) (scopeIn (getD rule i 0)) (ok .from) (ok .to)) (x .1 .eligible i (u .below) .least);
         kept = λ t. refl;
       }

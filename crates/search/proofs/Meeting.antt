@@ -12,13 +12,9 @@ use Rattle.bits.proofs.Below.{true-false}
 use Rattle.bits.proofs.Counting.{and-of}
 use Rattle.bits.proofs.SetLaws.{and-bit, zero-empty}
 use Rattle.workflow.specs.Problem.{Job}
-use Rattle.pattern.specs.declared.Size.{Size}
-use Rattle.pattern.specs.Realize.{leader}
-use Rattle.pattern.proofs.Leader.{leader-same}
-use Rattle.pattern.specs.Tables.{classIn, mayIn, labelIn, jobIn}
+use Rattle.pattern.specs.Tables.{mayIn, labelIn}
 use Rattle.pattern.proofs.Place.{with-own, with-old, grown-joined, grown-placed}
 use Rattle.realize.specs.Parts.{Offers}
-use Rattle.pattern.specs.Given.{Given}
 use Rattle.search.specs.Meet.{reachIn, Meets}
 use Rattle.search.specs.State.{partner, depth, Growable, Grew}
 
@@ -39,19 +35,15 @@ module _ (reach : List ℕ) (d s t : ℕ) where
 
 -- a step reaches the class of each person permitted
 reach-own : {j : Job} {may reach : List ℕ} → Offers j may reach → (d s p : ℕ) → 1 ≤ d → d ≤ j .levels → s < 12
-    → p < j .people → mayIn may s p ≡ true → hasBit (reachIn reach d s) (leader j d p) ≡ true
+    → p < j .people → mayIn may s p ≡ true → hasBit (reachIn reach d s) (j .class d p) ≡ true
 reach-own {j} {may} {reach} w d s p a b l k m =
     let e : suc (d - 1) ≡ d = omega arith in
-    subst (λ (q : ℕ). hasBit (reachIn reach d s) (leader j q p) ≡ true) e (w .has (d - 1) s p (omega arith) l k m)
+    subst (λ (q : ℕ). hasBit (reachIn reach d s) (j .class q p) ≡ true) e (w .has (d - 1) s p (omega arith) l k m)
 
-module _ {size : Size} {crowd rule label : List ℕ} {placed next s w : ℕ}
-    (given : Given size crowd rule) (g : Growable (jobIn size crowd rule) placed next s w label)
-    (may reach : List ℕ) (offers : Offers (jobIn size crowd rule) may reach) where
-  abbrev j : Job
-  j = jobIn size crowd rule
-
+module _ {j : Job} {label : List ℕ} {placed next s w : ℕ} (few : j .steps ≤ 12) (g : Growable j placed next s w label)
+    (may reach : List ℕ) (offers : Offers j may reach) where
   pub grew-unmet : (r : Bool) → Meets reach (depth w) s (partner w) r → not r ≡ true
-      → Grew (jobIn size crowd rule) (mayIn may) placed next s w label label false
+      → Grew j (mayIn may) placed next s w label label false
   grew-unmet r m f =
       record {
         sized = g .patterned .sized;
@@ -63,14 +55,14 @@ module _ {size : Size} {crowd rule label : List ℕ} {placed next s w : ℕ}
             let n : 1 ≤ depth w = m .some (not-true r f) in
             let i = joined .among n in
             let l = g .patterned .inside (partner w) i in
-            let d : depth w ≤ size .levels = omega (arith, g .way) in
-            let same : classIn crowd (depth w) (x .plan s) ≡ classIn crowd (depth w) (x .plan (partner w)) =
+            let d : depth w ≤ j .levels = omega (arith, g .way) in
+            let same : j .class (depth w) (x .plan s) ≡ j .class (depth w) (x .plan (partner w)) =
             x .has .alike (depth w) n (omega (arith, g .way)) .back s (partner w) (g .below) l (with-own (hasBit placed) s) (with-old (hasBit placed) s (partner w) i)
             (grown-joined (labelIn label) s (partner w) (depth w) (depth w) (omega arith)
-            ∙ sym (grown-placed (size .steps) (size .levels) (hasBit placed) (labelIn label) (g .patterned .pattern) s (g .below) (g .unplaced) (partner w) (depth w) (depth w) (partner w) i))
+            ∙ sym (grown-placed (j .steps) (j .levels) (hasBit placed) (labelIn label) (g .patterned .pattern) s (g .below) (g .unplaced) (partner w) (depth w) (depth w) (partner w) i))
             in
-            m .apart (not-true r f) (leader j (depth w) (x .plan s))
-            (reach-own offers (depth w) s (x .plan s) n d (omega (arith, g .below, given .ruled .few-steps)) (x .valid .within s (g .below)) (x .valid .authorised s (g .below)))
-            (subst (λ (c : ℕ). hasBit (reachIn reach (depth w) (partner w)) c ≡ true) (sym (leader-same j (depth w) (x .plan s) (x .plan (partner w)) same))
+            m .apart (not-true r f) (j .class (depth w) (x .plan s))
+            (reach-own offers (depth w) s (x .plan s) n d (omega (arith, g .below)) (x .valid .within s (g .below)) (x .valid .authorised s (g .below)))
+            (subst (λ (c : ℕ). hasBit (reachIn reach (depth w) (partner w)) c ≡ true) (sym same)
             (reach-own offers (depth w) (partner w) (x .plan (partner w)) n d (omega arith) (x .valid .within (partner w) l) (x .valid .authorised (partner w) l)));
       }

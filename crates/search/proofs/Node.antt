@@ -12,12 +12,12 @@ use Rattle.bits.proofs.Counting.{is-false}
 use Rattle.bits.proofs.Masks.{bits-below}
 use Rattle.workflow.specs.Problem.{Job, May, Rule, RuleOk}
 use Rattle.pattern.specs.declared.Size.{Size}
-use Rattle.pattern.specs.Pattern.{Label, Pattern, SamePattern}
+use Rattle.pattern.specs.Pattern.{Label, Pattern, Refining, SamePattern}
 use Rattle.pattern.specs.Place.{withStep, grown, Way}
 use Rattle.pattern.specs.Eligible.{groupCount, openCount, Possible}
 use Rattle.pattern.specs.Realize.{Realized}
 use Rattle.pattern.specs.Rule.{levelIn}
-use Rattle.pattern.specs.Tables.{mayIn, labelIn, ruleIn, jobIn}
+use Rattle.pattern.specs.Tables.{mayIn, labelIn, ruleIn, jobWith, nestedJob}
 use Rattle.pattern.proofs.Place.{with-cases, grown-placed, grown-pattern}
 use Rattle.pattern.proofs.Same.{pattern-same, possible-same, exists-same}
 use Rattle.pattern.proofs.Counted.{open-count-outside, group-count-outside}
@@ -26,86 +26,94 @@ use Rattle.bits.specs.Says.{Says}
 use Rattle.bits.proofs.Says.{says-true, says-false}
 use Rattle.eligible.specs.Rules.{RulesReady, ForSteps, Among}
 use Rattle.pattern.proofs.Given.{searchable}
+use Rattle.pattern.proofs.Nested.{nested-last, nested-refining}
 use Rattle.realize.specs.Parts.{ArraysSized, Offers, TablesFor}
 use Rattle.realize.specs.Decision.{Realizable}
-use Rattle.pattern.specs.Given.{Given}
+use Rattle.pattern.specs.Given.{Ruled, Nest}
 use Rattle.search.specs.Growth.{Placeable, Grows, Joins}
 use Rattle.search.specs.State.{Patterned, Passing, Touched, OthersPossible, LabelsKept, partner, depth, Growable, Grew}
 
-module _ {size : Size} {crowd rule : List ℕ}
-    (given : Given size crowd rule) (may : List ℕ) (placed : ℕ) (label : List ℕ) where
-  inside-small : Patterned (jobIn size crowd rule) placed label → placed < 4096
-  inside-small p = bits-below 12 placed (λ s h. let l = p .inside s h in omega (arith, given .ruled .few-steps))
+-- a job of these counts and rules, whatever its classes
+module _ {size : Size} {class : ℕ → ℕ → ℕ} {rule : List ℕ} (ruled : Ruled size rule) (may : List ℕ) (placed : ℕ) (label : List ℕ) where
+  inside-small : Patterned (jobWith size class rule) placed label → placed < 4096
+  inside-small p = bits-below 12 placed (λ s h. let l = p .inside s h in omega (arith, ruled .few-steps))
 
   -- the labels at the level of each rule of the job
-  pub rules-among : (among : ℕ) → Patterned (jobIn size crowd rule) placed label → ((i : ℕ) → hasBit among i ≡ true → i < size .rules)
+  pub rules-among : (among : ℕ) → Patterned (jobWith size class rule) placed label → ((i : ℕ) → hasBit among i ≡ true → i < size .rules)
       → RulesReady among rule placed label
   rules-among among p below =
       record {
-        sized = given .ruled .sized;
+        sized = ruled .sized;
         marked = λ i h.
-            let ok = given .ruled .rule-ok i (below i h) in
+            let ok = ruled .rule-ok i (below i h) in
             record {
               row = record {
                 sized = p .sized;
                 from = ok .from;
-                to = omega (arith, ok .to, given .ruled .few-levels);
+                to = omega (arith, ok .to, ruled .few-levels);
                 below = inside-small p;
               };
               labels = λ s k.
                   let l = p .pattern .labelled (levelIn (getD rule i 0)) (ok .from) (ok .to) .below s (p .inside s k) k in
-                  omega (arith, given .ruled .few-steps);
+                  omega (arith, ruled .few-steps);
             };
       }
 
-  pub sized : {reach : List ℕ} → length may ≡ 12 → Patterned (jobIn size crowd rule) placed label → length reach ≡ 36
-      → ArraysSized (size .levels) may label crowd reach placed
-  sized masks p w =
+  pub sized : {nest reach : List ℕ} → length may ≡ 12 → Patterned (jobWith size class rule) placed label → length nest ≡ 192 → length reach ≡ 36
+      → ArraysSized (size .levels) may label nest reach placed
+  sized masks p n w =
       record {
-        deep = given .ruled .few-levels;
+        deep = ruled .few-levels;
         masks = masks;
         labels = p .sized;
-        crowds = given .crowds .sized;
+        nests = n;
         reaches = w;
         below = inside-small p;
       }
 
-  pub known : {reach : List ℕ} → Offers (jobIn size crowd rule) may reach → Patterned (jobIn size crowd rule) placed label
-      → TablesFor (jobIn size crowd rule) (size .people) (size .levels) may label crowd reach placed
+  -- a rule cannot be met
+  pub passing-ruled-out : Refining (jobWith size class rule) → (among : ℕ) (r : Bool) → OthersPossible (jobWith size class rule) among placed label
+      → ForSteps among rule (λ steps. Says r (Among steps among rule placed label)) → not r ≡ true
+      → Passing (jobWith size class rule) (mayIn may) placed label false
+  passing-ruled-out refining among r w says f =
+      let n = says-false r (Among (size .steps) among rule placed label) (says (size .steps) (λ i h. ruled .scopes i (w .below i h))) (not-true r f) in
+      record {
+        won = λ e. true-false refl (sym e);
+        lost = λ e x. n (λ i h. exists-possible (jobWith size class rule) (mayIn may) (hasBit placed) (labelIn label) (searchable ruled refining) x i (w .below i h));
+      }
+
+-- the job of the table of what lies inside each class
+module _ {size : Size} {nest rule : List ℕ} (given : Nest size nest rule) (may : List ℕ) (placed : ℕ) (label : List ℕ) where
+  pub known : {reach : List ℕ} → Offers (nestedJob size nest rule) may reach → Patterned (nestedJob size nest rule) placed label
+      → TablesFor (nestedJob size nest rule) (size .people) (size .levels) may label nest reach placed
   known offers p =
       record {
-        crew = refl;
-        depth = refl;
-        few = given .few-people;
-        classes = λ q u a b l. refl;
-        crowds = given .crowds;
-        refining = given .refining;
-        offers = offers;
+        all = refl;
+        tables = record {
+          depth = refl;
+          refining = nested-refining size nest rule;
+          few = given .few-people;
+          small = given .small;
+          person = nested-last nest (size .levels);
+          nest-has = given .has;
+          nest-only = given .only;
+          crew = given .crew;
+          offers = offers;
+        };
         pattern = p .pattern;
         below = p .inside;
       }
 
-  -- a rule cannot be met
-  pub passing-ruled-out : (among : ℕ) (r : Bool) → OthersPossible (jobIn size crowd rule) among placed label
-      → ForSteps among rule (λ steps. Says r (Among steps among rule placed label)) → not r ≡ true
-      → Passing (jobIn size crowd rule) (mayIn may) placed label false
-  passing-ruled-out among r w says f =
-      let n = says-false r (Among (size .steps) among rule placed label) (says (size .steps) (λ i h. given .ruled .scopes i (w .below i h))) (not-true r f) in
-      record {
-        won = λ e. true-false refl (sym e);
-        lost = λ e x. n (λ i h. exists-possible (jobIn size crowd rule) (mayIn may) (hasBit placed) (labelIn label) (searchable given) x i (w .below i h));
-      }
-
-  pub passing-decided : {reach : List ℕ} → Offers (jobIn size crowd rule) may reach → (among : ℕ) (e r : Bool) → Patterned (jobIn size crowd rule) placed label
-      → OthersPossible (jobIn size crowd rule) among placed label
-      → ForSteps among rule (λ steps. Says e (Among steps among rule placed label)) → not e ≡ false → Realizable (size .people) (size .levels) may label crowd reach placed r
-      → Passing (jobIn size crowd rule) (mayIn may) placed label r
+  pub passing-decided : {reach : List ℕ} → Offers (nestedJob size nest rule) may reach → (among : ℕ) (e r : Bool) → Patterned (nestedJob size nest rule) placed label
+      → OthersPossible (nestedJob size nest rule) among placed label
+      → ForSteps among rule (λ steps. Says e (Among steps among rule placed label)) → not e ≡ false → Realizable (size .people) (size .levels) may label nest reach placed r
+      → Passing (nestedJob size nest rule) (mayIn may) placed label r
   passing-decided offers among e r p w possible f d =
       let m = says-true e (Among (size .steps) among rule placed label) (possible (size .steps) (λ i h. given .ruled .scopes i (w .below i h))) (not-false e f) in
       let a : (i : ℕ) → i < size .rules → Possible (size .steps) (hasBit placed) (labelIn label) (ruleIn rule i)
       = λ i l. by-cases (hasBit among i) (m i) (λ h. w .possible i l h)
       in
-      let j = jobIn size crowd rule in
+      let j = nestedJob size nest rule in
       let says = d .says j (known offers p) in
       record {
         won = λ e. record { possible = a; realized = says-true r (Realized j (mayIn may) (labelIn label) 0 (hasBit placed) (λ p. true)) says e };

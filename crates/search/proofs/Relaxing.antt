@@ -8,7 +8,7 @@ use borrow.Author.Tests.{not-true}
 use Rattle.bits.proofs.Below.{true-false}
 use Rattle.workflow.specs.Problem.{Job, May}
 use Rattle.pattern.specs.Tables.{mayIn}
-use Rattle.pattern.proofs.Classes.{named-same}
+use Rattle.pattern.proofs.Classes.{numbered-same}
 use Rattle.levels.specs.declared.Tables.{Tables}
 use Rattle.levels.specs.Tabled.{tabledJob, Ready}
 use Rattle.levels.specs.Trims.{Trims}
@@ -19,9 +19,9 @@ module _ {t one : Tables} {carried : List ℕ} (ready : Ready t) (law : Relaxes 
     (trims : Trims (t .size) (t .class) carried one) where
   pub refuting : (may plan plan′ : List ℕ) (r : Bool) → Existence (tabledJob one) (mayIn may) plan plan′ r → Refuting (tabledJob t) (mayIn may) (not r)
   refuting may plan plan′ r x =
-      let named = named-same (ready .tabled .given) (ready .names) in
+      let known = numbered-same (ready .tabled .given) (ready .numbers) in
       record {
-        none-valid = λ e (π, v). x .lost (not-true r e) (π, trims .same .valid (mayIn may) π .0 (law .valid (mayIn may) π (named .valid (mayIn may) π .0 v)));
+        none-valid = λ e (π, v). x .lost (not-true r e) (π, trims .same .valid (mayIn may) π .0 (law .valid (mayIn may) π (known .valid (mayIn may) π .0 v)));
       }
 
 pub refuting-none : (j : Job) (may : May) → Refuting j may false

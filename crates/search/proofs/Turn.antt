@@ -17,11 +17,10 @@ use Rattle.pattern.specs.declared.Size.{Size}
 use Rattle.pattern.specs.Pattern.{Refining}
 use Rattle.pattern.specs.Place.{withStep, grown}
 use Rattle.pattern.specs.Search.{Exists}
-use Rattle.pattern.specs.Tables.{labelIn, jobIn}
+use Rattle.pattern.specs.Tables.{labelIn, jobWith}
 use Rattle.pattern.proofs.Place.{with-cases, grown-old, grown-joined, grown-apart}
 use Rattle.pattern.proofs.Same.{pattern-same, possible-same, exists-same}
 use Rattle.pattern.proofs.Search.{exists-grown}
-use Rattle.pattern.specs.Given.{Given}
 use Rattle.levels.specs.Tabled.{Naming}
 use Rattle.search.specs.Growth.{Joins}
 use Rattle.search.specs.State.{Touched, Reached, FindOutcome, partner, depth, ByWay, Growable, Grew, WaysTried}
@@ -214,7 +213,6 @@ module _ {j : Job} {may : May} {placed rest next left s : ℕ} {label : List ℕ
           may x)
 
 -- the rules that name a step, by the table
-pub named-touched : {size : Size} {crowd rule of : List ℕ} {s : ℕ}
-    → Given size crowd rule → Naming (size .rules) rule of → s < 12
-    → Touched (jobIn size crowd rule) (getD of s 0) s
-named-touched {s = s} g w l = record { below = λ i h. w .only i s l h .0; all = λ i k h. w .has i s k l h }
+pub named-touched : {size : Size} {class : ℕ → ℕ → ℕ} {rule of : List ℕ} {s : ℕ} → Naming (size .rules) rule of → s < 12
+    → Touched (jobWith size class rule) (getD of s 0) s
+named-touched {s = s} w l = record { below = λ i h. w .only i s l h .0; all = λ i k h. w .has i s k l h }

@@ -6,7 +6,7 @@ use Prim.Native.Nat.{ℕ, _+_, _*_, _-_, _≤_}
 use lib.ListN.{getD}
 use Rattle.bits.specs.Word.{hasBit}
 
--- the classes of level d with somebody for step s, by name: 12 masks a level
+-- the classes of level d with somebody for step s: 12 masks a level
 abbrev pub reachIn : List ℕ → ℕ → ℕ → ℕ
 reachIn reach d s = getD reach ((d - 1) * 12 + s) 0
 

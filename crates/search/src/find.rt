@@ -3,11 +3,11 @@ use super::choose::next_step;
 use super::grow::Placing;
 use super::grow::grow;
 use super::weights::blame;
-use bits::sizes::Crowds;
 use bits::sizes::Domains;
 use bits::sizes::Labels;
 use bits::sizes::MOST_STEPS;
 use bits::sizes::Naming;
+use bits::sizes::Nest;
 use bits::sizes::Reach;
 use bits::sizes::Rules;
 use bits::sizes::Weights;
@@ -16,8 +16,8 @@ use bits::small::without;
 use pattern::Size;
 ghost use mathlib.Core.Path.{_≡_};
 ghost use lib.ListN.{length};
-ghost use Rattle.levels.specs.Tabled.{Tabled};
-ghost use Rattle.pattern.specs.Tables.{mayIn, jobIn};
+ghost use Rattle.levels.specs.Tabled.{SearchTables};
+ghost use Rattle.pattern.specs.Tables.{mayIn, nestedJob};
 ghost use Rattle.realize.specs.Parts.{Offers};
 ghost use Rattle.search.specs.State.{Reached, FindOutcome};
 
@@ -31,7 +31,7 @@ pub struct Front {
 // the placed steps, whose labels are as they were.
 pub fn find(
     size: Size,
-    crowd: &Crowds,
+    nest: &Nest,
     rule: &Rules,
     of: &Naming,
     may: &Domains,
@@ -40,10 +40,10 @@ pub fn find(
     label: &mut Labels,
     weight: &mut Weights,
 ) -> bool
-    requires { ⌜ Tabled size (now crowd) (now rule) (now of) × (length (now may) ≡ 12) × (length (now weight) ≡ 12)
-        × Reached (jobIn size (now crowd) (now rule)) (mayIn (now may)) (front .placed) (front .rest) (now label)
-        × Offers (jobIn size (now crowd) (now rule)) (now may) (now reach) ⌝ }
-    ensures { λ r. ⌜ FindOutcome (jobIn size (now (crowd .entry)) (now (rule .entry))) (mayIn (now (may .entry))) (front .placed) (front .rest) (now (label .entry)) (now (label .exit)) r
+    requires { ⌜ SearchTables size (now nest) (now rule) (now of) × (length (now may) ≡ 12) × (length (now weight) ≡ 12)
+        × Reached (nestedJob size (now nest) (now rule)) (mayIn (now may)) (front .placed) (front .rest) (now label)
+        × Offers (nestedJob size (now nest) (now rule)) (now may) (now reach) ⌝ }
+    ensures { λ r. ⌜ FindOutcome (nestedJob size (now (nest .entry)) (now (rule .entry))) (mayIn (now (may .entry))) (front .placed) (front .rest) (now (label .entry)) (now (label .exit)) r
         × (length (now (weight .exit)) ≡ 12) ⌝ }
 {
     if front.rest == 0 {
@@ -63,10 +63,10 @@ pub fn find(
             step: s,
             way: w,
         };
-        if !grow(size, crowd, rule, may, reach, among, placing, label) {
+        if !grow(size, nest, rule, may, reach, among, placing, label) {
             continue;
         }
-        if find(size, crowd, rule, of, may, reach, next, label, weight) {
+        if find(size, nest, rule, of, may, reach, next, label, weight) {
             return true;
         }
     }

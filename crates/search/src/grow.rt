@@ -2,10 +2,10 @@
 use super::meet::meets;
 use super::place::joins;
 use super::place::place;
-use bits::sizes::Crowds;
 use bits::sizes::Domains;
 use bits::sizes::Labels;
 use bits::sizes::MOST_STEPS;
+use bits::sizes::Nest;
 use bits::sizes::Reach;
 use bits::sizes::Rules;
 use eligible::eligible;
@@ -13,8 +13,8 @@ use pattern::Size;
 use realize::realizable;
 ghost use mathlib.Core.Path.{_≡_};
 ghost use lib.ListN.{length};
-ghost use Rattle.pattern.specs.Given.{Given};
-ghost use Rattle.pattern.specs.Tables.{mayIn, jobIn};
+ghost use Rattle.pattern.specs.Given.{Nest};
+ghost use Rattle.pattern.specs.Tables.{mayIn, nestedJob};
 ghost use Rattle.realize.specs.Parts.{Offers};
 ghost use Rattle.search.specs.State.{Patterned, Passing, Touched, OthersPossible, Growable, Grew};
 
@@ -33,7 +33,7 @@ pub struct Placing {
 // have people.
 fn passes(
     size: Size,
-    crowd: &Crowds,
+    nest: &Nest,
     rule: &Rules,
     may: &Domains,
     reach: &Reach,
@@ -41,22 +41,22 @@ fn passes(
     placed: u16,
     label: &Labels,
 ) -> bool
-    requires { ⌜ Given size (now crowd) (now rule) × (length (now may) ≡ 12) × Patterned (jobIn size (now crowd) (now rule)) placed (now label)
-        × Offers (jobIn size (now crowd) (now rule)) (now may) (now reach)
-        × OthersPossible (jobIn size (now crowd) (now rule)) among placed (now label) ⌝ }
-    ensures { λ r. ⌜ Passing (jobIn size (now (crowd .entry)) (now (rule .entry))) (mayIn (now (may .entry))) placed (now (label .entry)) r ⌝ }
+    requires { ⌜ Nest size (now nest) (now rule) × (length (now may) ≡ 12) × Patterned (nestedJob size (now nest) (now rule)) placed (now label)
+        × Offers (nestedJob size (now nest) (now rule)) (now may) (now reach)
+        × OthersPossible (nestedJob size (now nest) (now rule)) among placed (now label) ⌝ }
+    ensures { λ r. ⌜ Passing (nestedJob size (now (nest .entry)) (now (rule .entry))) (mayIn (now (may .entry))) placed (now (label .entry)) r ⌝ }
 {
     if !eligible(among, rule, placed, label) {
         return false;
     }
-    realizable(size, may, label, crowd, reach, placed)
+    realizable(size, may, label, nest, reach, placed)
 }
 
 // Places a step in a way, where there is such a group, and tests the pattern. `among` has the rules that
 // name the step: the others stay as they were.
 pub fn grow(
     size: Size,
-    crowd: &Crowds,
+    nest: &Nest,
     rule: &Rules,
     may: &Domains,
     reach: &Reach,
@@ -64,11 +64,11 @@ pub fn grow(
     placing: Placing,
     label: &mut Labels,
 ) -> bool
-    requires { ⌜ Given size (now crowd) (now rule) × (length (now may) ≡ 12)
-        × Growable (jobIn size (now crowd) (now rule)) (placing .placed) (placing .next) (placing .step) (placing .way) (now label)
-        × Offers (jobIn size (now crowd) (now rule)) (now may) (now reach)
-        × Touched (jobIn size (now crowd) (now rule)) among (placing .step) ⌝ }
-    ensures { λ r. ⌜ Grew (jobIn size (now (crowd .entry)) (now (rule .entry))) (mayIn (now (may .entry))) (placing .placed) (placing .next) (placing .step) (placing .way) (now (label .entry)) (now (label .exit)) r ⌝ }
+    requires { ⌜ Nest size (now nest) (now rule) × (length (now may) ≡ 12)
+        × Growable (nestedJob size (now nest) (now rule)) (placing .placed) (placing .next) (placing .step) (placing .way) (now label)
+        × Offers (nestedJob size (now nest) (now rule)) (now may) (now reach)
+        × Touched (nestedJob size (now nest) (now rule)) among (placing .step) ⌝ }
+    ensures { λ r. ⌜ Grew (nestedJob size (now (nest .entry)) (now (rule .entry))) (mayIn (now (may .entry))) (placing .placed) (placing .next) (placing .step) (placing .way) (now (label .entry)) (now (label .exit)) r ⌝ }
 {
     let s = placing.step;
     let t = placing.way % MOST_STEPS;
@@ -80,5 +80,5 @@ pub fn grow(
         return false;
     }
     place(size.levels, label, s, t, d);
-    passes(size, crowd, rule, may, reach, among, placing.next, label)
+    passes(size, nest, rule, may, reach, among, placing.next, label)
 }

@@ -13,6 +13,7 @@ use bits::sizes::Weights;
 use bits::small::with;
 use eligible::eligible;
 use levels::Tables;
+use levels::nest::nests;
 use realize::realize;
 use realize::tables::reaches;
 ghost use mathlib.Core.Path.{_≡_};
@@ -91,11 +92,12 @@ pub fn by_patterns(tables: Tables, may: &Domains, weight: &mut Weights, plan: &m
         return false;
     }
     let class = tables.class;
-    let reach = reaches(size.people, size.levels, &class, may);
+    let crowd = tables.crowd;
+    let nest = nests(size.people, size.levels, &class, &crowd);
+    let reach = reaches(size.people, size.levels, &class, &nest, may);
     if !limits_reached(size, &rule, &reach) {
         return false;
     }
-    let crowd = tables.crowd;
     let of = tables.of;
     let rest = named(size.steps, &of);
     let front = Front {
@@ -104,7 +106,7 @@ pub fn by_patterns(tables: Tables, may: &Domains, weight: &mut Weights, plan: &m
     };
     if !find(
         size,
-        &crowd,
+        &nest,
         &rule,
         &of,
         may,
@@ -116,6 +118,6 @@ pub fn by_patterns(tables: Tables, may: &Domains, weight: &mut Weights, plan: &m
         return false;
     }
     give_first(size.steps, may, plan);
-    realize(size, may, &label, &crowd, &reach, rest, plan);
+    realize(size, may, &label, &nest, &reach, rest, plan);
     true
 }

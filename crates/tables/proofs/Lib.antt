@@ -1,4 +1,4 @@
 pub mod Masks
-pub mod Leaders
+pub mod Numbers
 pub mod Same
 pub mod Posing

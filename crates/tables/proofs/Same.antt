@@ -4,16 +4,15 @@ use mathlib.Core.List.{List}
 use mathlib.Core.Path.{_≡_, refl, sym, _∙_, ap, subst}
 use Prim.Native.Nat.{ℕ, zero, suc, _+_, _^_, _<_, _≤_}
 use native.Mathlib.Omega.{arith}
-use lib.Dec.{eqb, ltb}
 use native.Mathlib.Nat.{not-suc-le-zero}
 use native.Mathlib.Numerals.{add-one}
 use lib.ListN.{length, getD, set, length-set}
 use lib.Seq.{getD-set-same, getD-set-other}
-use borrow.Author.Tests.{eqb-true, eq-eqb, lt-ltb, ltb-true, ltb-false, ne-eqb}
-use Rattle.bits.specs.Below.{count, first}
+use borrow.Author.Tests.{lt-ltb}
+use Rattle.bits.specs.Below.{count}
 use Rattle.bits.specs.Word.{hasBit}
-use Rattle.bits.proofs.Below.{first-cong, first-has, first-none, first-unique, below-suc, by-cases, true-false}
-use Rattle.bits.proofs.Counting.{bool-ext, count-le}
+use Rattle.bits.proofs.Below.{below-suc}
+use Rattle.bits.proofs.Counting.{count-le}
 use Rattle.sheet.specs.Readable.{ReadableJob}
 use Rattle.sheet.specs.declared.SheetJob as sheet
 use Rattle.workflow.specs.Problem.{Kind, same, different, atMost, atLeast, Fits, Job, RuleOk, leastOf, mostOf}
@@ -22,34 +21,18 @@ use Rattle.workflow.specs.Same.{Renamed}
 use Rattle.workflow.proofs.Same.{renamed-same, same-trans}
 use Rattle.pattern.specs.declared.Size.{Size}
 use Rattle.pattern.specs.Given.{Ruled, Classed}
+use Rattle.pattern.specs.Number.{numberOf}
 use Rattle.pattern.specs.Pattern.{Refining}
-use Rattle.pattern.specs.Realize.{nameOf, leader}
 use Rattle.pattern.specs.Rule.{levelIn, scopeIn}
 use Rattle.pattern.specs.Tables.{classIn, mayIn, ruleIn, jobIn}
+use Rattle.pattern.proofs.Number.{number-same, number-tells, number-moves, numbering, numbering-as, number-few}
 use Rattle.levels.specs.declared.Tables.{Tables}
 use Rattle.levels.specs.Trims.{Trims}
 use Rattle.instance.specs.Instance.{instanceOf, mayOf}
 use Rattle.instance.proofs.Laws.{instance-nested, instance-fits, instance-rules}
-use Rattle.tables.specs.Arrays.{MasksOf, ClassesOf, firstWith}
+use Rattle.tables.specs.Arrays.{MasksOf, wordOf, ClassesOf}
 use Rattle.tables.specs.Posing.{Packable, Packs, PackedRules, Poses, Permits}
-
--- the first person with p's number is one of the people, and has it
-module _ (numbers : List ℕ) (people : ℕ) where
-  named : (p : ℕ) → p < people → firstWith numbers people p < people
-  named p l =
-      by-cases (ltb (firstWith numbers people p) people) (λ t. ltb-true _ _ t)
-      (λ t.
-      let e : people ≤ firstWith numbers people p = ltb-false _ _ t in
-      true-false (eq-eqb (getD numbers p 0) (getD numbers p 0) refl) (first-none people (λ q. eqb (getD numbers q 0) (getD numbers p 0)) p (omega arith)))
-
-  named-number : (p : ℕ) → p < people → getD numbers (firstWith numbers people p) 0 ≡ getD numbers p 0
-  named-number p l = eqb-true _ _ (first-has people _ (named p l))
-
-  named-same : (p q : ℕ) → getD numbers p 0 ≡ getD numbers q 0 → firstWith numbers people p ≡ firstWith numbers people q
-  named-same p q e = ap (λ (v : ℕ). first people (λ x. eqb (getD numbers x 0) v)) e
-
-  named-tells : (p q : ℕ) → p < people → q < people → firstWith numbers people p ≡ firstWith numbers people q → getD numbers p 0 ≡ getD numbers q 0
-  named-tells p q l m e = sym (named-number p l) ∙ ap (λ (x : ℕ). getD numbers x 0) e ∙ named-number q m
+use Rattle.tables.proofs.Numbers.{own-number}
 
 -- a limit is at most the size of the scope
 limit-fits : (k : Kind) (limit size : ℕ) → Fits k limit size → limit ≤ size
@@ -86,15 +69,15 @@ module _ (people steps rules : ℕ) (j : sheet.SheetJob) (r : ReadableJob people
   -- the table has two people in one class exactly where the sheet has
   class-back : (q p p′ : ℕ) → 1 ≤ q → q ≤ 3 → p < people → p′ < people → asked .class q p ≡ asked .class q p′ → classIn class q p ≡ classIn class q p′
   class-back zero p p′ a b l m e = absurd (omega arith)
-  class-back (suc zero) p p′ a b l m e = c .shops p l ∙ named-same (j .shop) people p p′ e ∙ sym (c .shops p′ m)
-  class-back (suc (suc zero)) p p′ a b l m e = c .benches p l ∙ named-same (j .bench) people p p′ e ∙ sym (c .benches p′ m)
+  class-back (suc zero) p p′ a b l m e = c .shops p l ∙ number-same people (wordOf (j .shop)) p p′ e ∙ sym (c .shops p′ m)
+  class-back (suc (suc zero)) p p′ a b l m e = c .benches p l ∙ number-same people (wordOf (j .bench)) p p′ e ∙ sym (c .benches p′ m)
   class-back (suc (suc (suc zero))) p p′ a b l m e = ap (classIn class 3) e
   class-back (suc (suc (suc (suc q)))) p p′ a b l m e = absurd (omega arith)
 
   class-forth : (q p p′ : ℕ) → 1 ≤ q → q ≤ 3 → p < people → p′ < people → classIn class q p ≡ classIn class q p′ → asked .class q p ≡ asked .class q p′
   class-forth zero p p′ a b l m e = absurd (omega arith)
-  class-forth (suc zero) p p′ a b l m e = named-tells (j .shop) people p p′ l m (sym (c .shops p l) ∙ e ∙ c .shops p′ m)
-  class-forth (suc (suc zero)) p p′ a b l m e = named-tells (j .bench) people p p′ l m (sym (c .benches p l) ∙ e ∙ c .benches p′ m)
+  class-forth (suc zero) p p′ a b l m e = number-tells people (wordOf (j .shop)) p p′ l m (sym (c .shops p l) ∙ e ∙ c .shops p′ m)
+  class-forth (suc (suc zero)) p p′ a b l m e = number-tells people (wordOf (j .bench)) p p′ l m (sym (c .benches p l) ∙ e ∙ c .benches p′ m)
   class-forth (suc (suc (suc zero))) p p′ a b l m e = sym (c .persons p l) ∙ e ∙ c .persons p′ m
   class-forth (suc (suc (suc (suc q)))) p p′ a b l m e = absurd (omega arith)
 
@@ -106,21 +89,19 @@ module _ (people steps rules : ℕ) (j : sheet.SheetJob) (r : ReadableJob people
             (instance-nested people steps rules j r .finer q p p′ a b l m (class-forth (suc q) p p′ (omega arith) (omega arith) l m e));
       }
 
-  -- the names of the classes are their first people
-  leaders : (q p : ℕ) → 1 ≤ q → q ≤ 3 → p < people → classIn class q p ≡ leader posed q p
-  unfolding nameOf
-  leaders q p a b l =
-      name q p a b l
-      ∙ sym (first-cong people _ _
-      (λ x m. bool-ext _ _ (λ t. eq-eqb _ _ (class-forth q x p a b m l (eqb-true _ _ t))) (λ t. eq-eqb _ _ (class-back q x p a b m l (eqb-true _ _ t)))))
-    where
-      -- each class is named by the first person of the instance's class
-      name : (q p : ℕ) → 1 ≤ q → q ≤ 3 → p < people → classIn class q p ≡ first people (λ x. eqb (asked .class q x) (asked .class q p))
-      name zero p a b l = absurd (omega arith)
-      name (suc zero) p a b l = c .shops p l
-      name (suc (suc zero)) p a b l = c .benches p l
-      name (suc (suc (suc zero))) p a b l = c .persons p l ∙ sym (first-unique people (λ x. eqb x p) p (omega arith) (λ h. eq-eqb p p refl) (λ k h. ne-eqb k p (omega arith)))
-      name (suc (suc (suc (suc q)))) p a b l = absurd (omega arith)
+  -- each class has its number
+  numbered : (q p : ℕ) → 1 ≤ q → q ≤ 3 → p < people → classIn class q p ≡ numberOf people (asked .class q) p
+  numbered zero p a b l = absurd (omega arith)
+  numbered (suc zero) p a b l = c .shops p l
+  numbered (suc (suc zero)) p a b l = c .benches p l
+  numbered (suc (suc (suc zero))) p a b l = c .persons p l ∙ sym (own-number people p l)
+  numbered (suc (suc (suc (suc q)))) p a b l = absurd (omega arith)
+
+  -- which is that of the table's class, as the same people share it
+  numbers : (q p : ℕ) → 1 ≤ q → q ≤ 3 → p < people → classIn class q p ≡ numberOf people (classIn class q) p
+  numbers q p a b l =
+      numbered q p a b l
+      ∙ number-moves people (asked .class q) (classIn class q) (λ x y m n e. class-back q x y a b m n e) (λ x y m n e. class-forth q x y a b m n e) p l
 
   ok : (i : ℕ) → i < rules → RuleOk steps 3 (ruleIn rule i)
   ok i l =
@@ -150,7 +131,7 @@ module _ (people steps rules : ℕ) (j : sheet.SheetJob) (r : ReadableJob people
         few-people = r .people-most;
         classes = c .size;
         refining = refining;
-        leaders = leaders;
+        numbers = numbers;
       }
 
   renamed : Renamed asked posed
@@ -170,8 +151,22 @@ module _ (people steps rules : ℕ) (j : sheet.SheetJob) (r : ReadableJob people
             );
       }
 
-  pub poses : {t : Tables} → Trims size class rule t → Poses people steps rules j t
-  poses t = record { ready = t .ready; same = same-trans (renamed-same asked posed renamed) (t .same) }
+  pub poses : (t : Tables) → Trims size class rule t → Poses people steps rules j t
+  poses tables t =
+      record {
+        ready = t .ready;
+        same = same-trans (renamed-same asked posed renamed) (t .same);
+        numbers = λ k a b.
+            let x = t .kept k a b in
+            let its : (p : ℕ) → p < people → classIn (tables .class) k p ≡ numberOf people (asked .class (x .0)) p = λ p l. x .3 p l ∙ numbered (x .0) p (x .1) (x .2) l in
+            record {
+              level = x .0;
+              from = x .1;
+              to = x .2;
+              numbering = numbering-as people (asked .class (x .0)) _ _ its (numbering people (asked .class (x .0)));
+              small = λ p l. omega (arith, its p l, number-few people (asked .class (x .0)) p l, r .people-most);
+            };
+      }
 
 pub permits : (people steps : ℕ) (j : sheet.SheetJob) {may : List ℕ} → steps ≤ 12 → MasksOf (j .permitted) people 12 may → Permits people steps j may
 permits people steps j few m =

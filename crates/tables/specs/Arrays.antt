@@ -2,12 +2,12 @@
 use mathlib.Core.Bool.{Bool, _&&_}
 use mathlib.Core.List.{List}
 use mathlib.Core.Path.{_≡_}
-use Prim.Native.Nat.{ℕ, _<_}
-use lib.Dec.{eqb, ltb}
+use Prim.Native.Nat.{ℕ, _+_, _<_}
+use lib.Dec.{ltb}
 use lib.ListN.{length, getD}
-use Rattle.bits.specs.Below.{first}
 use Rattle.bits.specs.Word.{hasBit}
-use Rattle.pattern.specs.Tables.{classIn, mayIn}
+use Rattle.pattern.specs.Number.{numberOf}
+use Rattle.pattern.specs.Tables.{classIn}
 
 -- the mask of the people to whom step s is permitted
 pub record MaskOf (permitted : List ℕ) (people s mask : ℕ) : Type 0 where
@@ -18,13 +18,24 @@ pub record MasksOf (permitted : List ℕ) (people n : ℕ) (may : List ℕ) : Ty
   pub size : length may ≡ 12
   pub each : (s : ℕ) → s < n → MaskOf permitted people s (getD may s 0)
 
--- the first of the people with p's number
-abbrev pub firstWith : List ℕ → ℕ → ℕ → ℕ
-firstWith numbers people p = first people (λ q. eqb (getD numbers q 0) (getD numbers p 0))
+-- the word of a person, as the shop or the bench
+abbrev pub wordOf : List ℕ → ℕ → ℕ
+wordOf words p = getD words p 0
 
--- the classes of the people below n, each named by its first person: shops, benches and people
+-- the entries from `top` on are the numbers of the classes of the people below n
+pub record NumbersAt (words : List ℕ) (people top n : ℕ) (class : List ℕ) : Type 0 where
+  pub size : length class ≡ 192
+  pub each : (p : ℕ) → p < n → getD class (top + p) 0 ≡ numberOf people (wordOf words) p
+
+-- that of person p is entered, and every other entry is as it was
+pub record Entered (words : List ℕ) (people top p : ℕ) (class out : List ℕ) : Type 0 where
+  pub size : length out ≡ 192
+  pub number : getD out (top + p) 0 ≡ numberOf people (wordOf words) p
+  pub others : (k : ℕ) → (k ≡ top + p → ⊥) → getD out k 0 ≡ getD class k 0
+
+-- the classes of the people below n: shops and benches, each by its number, from 0 by first use in crew order, and people
 pub record ClassesOf (shop bench : List ℕ) (people n : ℕ) (class : List ℕ) : Type 0 where
   pub size : length class ≡ 192
-  pub shops : (p : ℕ) → p < n → classIn class 1 p ≡ firstWith shop people p
-  pub benches : (p : ℕ) → p < n → classIn class 2 p ≡ firstWith bench people p
+  pub shops : (p : ℕ) → p < n → classIn class 1 p ≡ numberOf people (wordOf shop) p
+  pub benches : (p : ℕ) → p < n → classIn class 2 p ≡ numberOf people (wordOf bench) p
   pub persons : (p : ℕ) → p < n → classIn class 3 p ≡ p

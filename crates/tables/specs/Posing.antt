@@ -7,9 +7,10 @@ use Rattle.sheet.specs.declared.SheetJob as sheet
 use Rattle.workflow.specs.Problem.{leastOf, mostOf}
 use Rattle.workflow.specs.Numbered.{kindIn}
 use Rattle.workflow.specs.Same.{SamePlans}
-use Rattle.instance.specs.Instance.{instanceOf, mayOf}
+use Rattle.instance.specs.Instance.{classNumber, instanceOf, mayOf}
+use Rattle.pattern.specs.Number.{Numbering}
 use Rattle.pattern.specs.Rule.{Packed}
-use Rattle.pattern.specs.Tables.{mayIn}
+use Rattle.pattern.specs.Tables.{classIn, mayIn}
 use Rattle.levels.specs.Tabled.{tabledJob, Ready}
 use Rattle.levels.specs.declared.Tables.{Tables}
 
@@ -32,10 +33,20 @@ pub record PackedRules (steps n : ℕ) (kind level limit scope rule : List ℕ) 
   pub sized : length rule ≡ 64
   pub each : (i : ℕ) → i < n → Packs steps kind level limit scope i (getD rule i 0)
 
+-- level k of the tables has the classes of one level of the sheet, "numbered from 0 by first use in crew order, and two people get one
+-- number exactly when they share the shop, or the bench"; the numbers are small
+pub record LevelNumbers (people : ℕ) (j : sheet.SheetJob) (t : Tables) (k : ℕ) : Type 0 where
+  pub level : ℕ
+  pub from : 1 ≤ level
+  pub to : level ≤ 3
+  pub numbering : Numbering people (classNumber j level) (classIn (t .class) k)
+  pub small : (p : ℕ) → p < people → classIn (t .class) k p < 64
+
 -- the tables pose the problem of the sheet: they have the same plans
 pub record Poses (people steps rules : ℕ) (j : sheet.SheetJob) (t : Tables) : Type 0 where
   pub ready : Ready t
   pub same : SamePlans (instanceOf people steps rules j) (tabledJob t)
+  pub numbers : (k : ℕ) → 1 ≤ k → k ≤ t .size .levels → LevelNumbers people j t k
 
 -- the masks have the people who are permitted each step by the sheet
 pub record Permits (people steps : ℕ) (j : sheet.SheetJob) (may : List ℕ) : Type 0 where

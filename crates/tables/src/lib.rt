@@ -1,14 +1,16 @@
-// A job as the search takes it: masks of people for each step, classes named by their first people, and
-// rules as numbers.
+// A job as the search takes it: masks of people for each step, classes numbered by first use, and rules as
+// numbers.
 ghost use mathlib.Core.Path.{_≡_};
 ghost use Prim.Native.Nat.{ℕ, _+_, _^_, _<_, _≤_};
+ghost use lib.Dec.{eqb};
 ghost use lib.ListN.{length, getD};
 ghost use Rattle.bits.specs.Slots.{FirstOfSlot};
 ghost use Rattle.workflow.specs.Problem.{leastOf, mostOf};
 ghost use Rattle.workflow.specs.Numbered.{kindIn};
+ghost use Rattle.pattern.specs.Number.{firstUse, classesBefore};
 ghost use Rattle.sheet.specs.Readable.{ReadableJob};
 ghost use Rattle.tables.specs.Posing.{Packable, PackedRules, Poses};
-ghost use Rattle.tables.specs.Arrays.{MasksOf, ClassesOf, firstWith};
+ghost use Rattle.tables.specs.Arrays.{MasksOf, wordOf, NumbersAt, Entered, ClassesOf};
 ghost use Rattle.tables.specs.Rows.{Pushed};
 use bits::sizes::CLASS_ENTRIES;
 use bits::sizes::Classes;
@@ -19,6 +21,8 @@ use bits::sizes::MOST_STEPS;
 use bits::sizes::PersonWords;
 use bits::sizes::RuleBytes;
 use bits::sizes::Rules;
+use bits::sizes::SLOTS;
+use bits::sizes::SlotPeople;
 use bits::slots::first_there;
 use levels::Tables;
 use levels::keep;
@@ -48,15 +52,15 @@ pub fn may_masks(permitted: &PersonWords, people: usize) -> Domains
     may
 }
 
-// The first of the people with the number of person `p`.
-fn first_with(numbers: &PersonWords, people: usize, p: usize) -> usize
-    requires { ⌜ (length (now numbers) ≡ 64) × (p < people) × (people ≤ 64) ⌝ }
-    ensures { λ r. ⌜ r ≡ firstWith (now (numbers .entry)) people p ⌝ }
+// The first of the people with the word of person `p`.
+fn first_with(words: &PersonWords, people: usize, p: usize) -> usize
+    requires { ⌜ (length (now words) ≡ 64) × (p < people) × (people ≤ 64) ⌝ }
+    ensures { λ r. ⌜ r ≡ firstUse people (wordOf (now (words .entry))) p ⌝ }
 {
-    let number = numbers[p];
+    let word = words[p];
     let mut q = 0;
     while q < people {
-        if numbers[q] == number {
+        if words[q] == word {
             return q;
         }
         q += 1;
@@ -65,28 +69,60 @@ fn first_with(numbers: &PersonWords, people: usize, p: usize) -> usize
 }
 
 // The same, with the first person of each slot.
-fn leader(numbers: &PersonWords, people: usize, p: usize, firsts: &mut [u8; 1024]) -> usize
-    requires { ⌜ (length (now numbers) ≡ 64) × (p < people) × (people ≤ 64) × FirstOfSlot (now numbers) p (now firsts) ⌝ }
-    ensures { λ r. ⌜ (r ≡ firstWith (now (numbers .entry)) people p) × FirstOfSlot (now (numbers .entry)) (p + 1) (now (firsts .exit)) ⌝ }
+fn first_use(words: &PersonWords, people: usize, p: usize, firsts: &mut SlotPeople) -> usize
+    requires { ⌜ (length (now words) ≡ 64) × (p < people) × (people ≤ 64) × FirstOfSlot (now words) p (now firsts) ⌝ }
+    ensures { λ r. ⌜ (r ≡ firstUse people (wordOf (now (words .entry))) p) × FirstOfSlot (now (words .entry)) (p + 1) (now (firsts .exit)) ⌝ }
 {
-    let q = first_there(numbers, p, firsts);
-    if numbers[q] == numbers[p] {
+    let q = first_there(words, p, firsts);
+    if words[q] == words[p] {
         return q;
     }
-    first_with(numbers, people, p)
+    first_with(words, people, p)
 }
 
-// The classes of each level: shops, benches, people.
+// Enters the number of the class of person `p`: the next one where the class is new, and else that of its first use. Says whether it
+// is new. The entries of the level begin at `top`, and `met` of its classes stand before `p`.
+fn enter_class(
+    words: &PersonWords,
+    people: usize,
+    p: usize,
+    top: usize,
+    met: usize,
+    firsts: &mut SlotPeople,
+    class: &mut Classes,
+) -> bool
+    requires { ⌜ (length (now words) ≡ 64) × (p < people) × (people ≤ 64) × FirstOfSlot (now words) p (now firsts) ⌝ }
+    requires { ⌜ (top ≤ 128) × (met ≡ classesBefore (wordOf (now words)) p) × NumbersAt (now words) people top p (now class) ⌝ }
+    ensures { λ r. ⌜ (r ≡ eqb (firstUse people (wordOf (now (words .entry))) p) p)
+        × Entered (now (words .entry)) people top p (now (class .entry)) (now (class .exit))
+        × FirstOfSlot (now (words .entry)) (p + 1) (now (firsts .exit)) ⌝ }
+{
+    let q = first_use(words, people, p, firsts);
+    if q == p {
+        class[top + p] = met as u8;
+        return true;
+    }
+    class[top + p] = class[top + q];
+    false
+}
+
+// The classes of each level: shops, benches, people. Each has a number, from 0 by first use in crew order.
 fn classes<'a>(shop: &'a PersonWords, bench: &'a PersonWords, people: usize) -> Classes
     requires { ⌜ (length (now shop) ≡ 64) × (length (now bench) ≡ 64) × (people ≤ 64) ⌝ }
     ensures { λ r. ⌜ ClassesOf (now (shop .entry)) (now (bench .entry)) people people r ⌝ }
 {
     let mut class = [0u8; CLASS_ENTRIES];
-    let mut shops = [0u8; 1024];
-    let mut benches = [0u8; 1024];
+    let mut shop_slots = [0u8; SLOTS];
+    let mut bench_slots = [0u8; SLOTS];
+    let mut shops = 0;
+    let mut benches = 0;
     for p in 0..people {
-        class[p] = leader(shop, people, p, &mut shops) as u8;
-        class[64 + p] = leader(bench, people, p, &mut benches) as u8;
+        if enter_class(shop, people, p, 0, shops, &mut shop_slots, &mut class) {
+            shops += 1;
+        }
+        if enter_class(bench, people, p, 64, benches, &mut bench_slots, &mut class) {
+            benches += 1;
+        }
         class[128 + p] = p as u8;
     }
     class

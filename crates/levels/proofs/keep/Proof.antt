@@ -1,7 +1,8 @@
 -- `levels::keep` meets its contract. Assumes nothing.
+use native.Mathlib.Omega.{arith}
 use borrow.Author.Needs.{needs}
 use Rattle.levels.proofs.Copying.{old-levels}
-use Rattle.levels.proofs.Trimming.{ruled-trimmed, trims}
+use Rattle.levels.proofs.Trimming.{ruled-trimmed, table-trimmed, trims}
 use Rattle.levels.proofs.keep.Statement.{statement}
 use Rattle.levels.proofs.keep.Tie as tie
 
@@ -20,12 +21,21 @@ rows-requires c κs =
 renumber-requires : tie.Need-renumber-requires
 renumber-requires c κs = search needs
 
-crowds-requires : tie.Need-crowds-requires
-crowds-requires c κs = search needs
-
 -- where the levels are numbered
 abbrev numbering : tie.After-renumber → tie.After-number
 numbering c = c .before .before .before .before .before .before
+
+crowds-requires : tie.Need-crowds-requires
+crowds-requires c κs =
+    let r = c .before in
+    let n = numbering r in
+    let a = n .before .before .args in
+    let w = r .before .before in
+    let t = n .before .before .pre in (
+      omega (arith, t .ruled .few-levels, n .number .ensures .few),
+      table-trimmed (a .size) (n .number .result .count) (n .before .marks .result) (a .class .now) (a .rule .now) (w .rows .result) (r .renumber .result)
+          (n .number .result .old) (n .number .result .new) t (n .before .marks .ensures) (n .number .ensures) (w .rows .ensures) (r .renumber .ensures),
+    )
 
 naming-requires : tie.Need-naming-requires
 naming-requires c κs =

@@ -1,6 +1,6 @@
 -- `relax::to_coarser` meets its contract. Assumes nothing.
 use mathlib.Core.Path.{refl, sym, subst}
-use Prim.Native.Nat.{ℕ}
+use Prim.Native.Nat.{ℕ, _-_}
 use native.Mathlib.Omega.{arith}
 use borrow.Author.Needs.{needs}
 use Rattle.bits.proofs.Counting.{count-le}
@@ -9,7 +9,8 @@ use Rattle.pattern.proofs.Packing.{packed-as}
 use Rattle.pattern.specs.Rule.{scopeIn}
 use Rattle.pattern.specs.Tables.{classIn}
 use Rattle.relax.proofs.Following.{follows-one, follows-several}
-use Rattle.relax.specs.Bound.{Nests, Tally, numbered, Needs}
+use Rattle.relax.proofs.Tallying.{classes-few}
+use Rattle.relax.specs.Bound.{Nests, Counted, Needs}
 use Rattle.relax.proofs.to_coarser.Statement.{statement}
 use Rattle.relax.proofs.to_coarser.Tie as tie
 
@@ -47,12 +48,14 @@ cast-fewest c = search needs
 
 fewest-requires : tie.Need-fewest-requires
 fewest-requires c κs =
-    let s = c .before .before .before .before .before in
-    let w = s .pre .0 in
-    let l = c .before .before .before .before .least in (
-      c .before .ranks .ensures .sized,
-      omega (arith, c .before .before .before .if1 .left),
-      omega (arith, l .ensures .0, w .rule-ok .reachable, count-le (s .args .size .steps) (hasBit (scopeIn (s .args .r))), w .few-steps),
+    let t = c .before .before in
+    let l = t .before .before .before in
+    let s = l .before in
+    let w = s .pre .0 in (
+      t .ranks .ensures .by-rank .sized,
+      classes-few (w .few-people) (t .ranks .ensures),
+      omega (arith, t .before .before .if1 .left),
+      omega (arith, l .least .ensures .0, w .rule-ok .reachable, count-le (s .args .size .steps) (hasBit (scopeIn (s .args .r))), w .few-steps),
     )
 
 cast-pack : tie.Need-cast-pack
@@ -70,13 +73,15 @@ pack-requires c κs = search needs
 returns-2 : tie.Need-returns-2
 returns-2 c =
     let f = c .before .before .before in
-    let l = f .before .before .before .before .before in
+    let t = f .before .before .before in
+    let l = t .before .before .before in
     let s = l .before in
+    let found = t .ranks .result in
     follows-several (s .pre .0) (s .pre .1)
-    (subst (λ (k : ℕ). Tally (s .args .size .people) (numbered (classIn (s .args .class .now) (s .args .q)) (classIn (s .args .class .now) k)) (f .before .before .ranks .result))
-    (f .before .before .before .level .ensures .0) (f .before .before .ranks .ensures))
-    (omega (arith, l .least .ensures .0, f .before .before .before .before .if1 .left))
-    (subst (λ (k : ℕ). Needs (f .before .before .ranks .result) k (f .fewest .result)) (l .least .ensures .0) (f .fewest .ensures))
+    (subst (λ (k : ℕ). Counted (s .args .size .people) (classIn (s .args .class .now) (s .args .q)) (classIn (s .args .class .now) k) (found .classes) (found .counts))
+    (t .before .level .ensures .0) (t .ranks .ensures))
+    (omega (arith, l .least .ensures .0, t .before .before .if1 .left))
+    (subst (λ (k : ℕ). Needs (found .counts) (found .classes - 1) k (f .fewest .result)) (l .least .ensures .0) (f .fewest .ensures))
     (packed-as refl (c .before .before .most .ensures .0) (c .before .scope .ensures) (c .pack .ensures))
 
 pub to-coarser-spec : {M : Type 1} → statement M

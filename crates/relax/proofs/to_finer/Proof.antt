@@ -1,6 +1,6 @@
 -- `relax::to_finer` meets its contract. Assumes nothing.
 use mathlib.Core.Path.{_≡_, refl, sym, subst, _∙_, ap}
-use Prim.Native.Nat.{ℕ, _<_}
+use Prim.Native.Nat.{ℕ, _-_, _<_}
 use native.Mathlib.Omega.{arith}
 use lib.Count.{ones}
 use borrow.Author.Needs.{needs}
@@ -8,7 +8,9 @@ use Rattle.pattern.proofs.Packing.{packed-as}
 use Rattle.pattern.specs.Rule.{levelIn, mostIn}
 use Rattle.pattern.specs.Tables.{classIn}
 use Rattle.relax.proofs.Following.{scope-few, follows-unlimited, follows-limited, follows-all}
-use Rattle.relax.specs.Bound.{Nests, Tally, numbered, together}
+use Rattle.relax.proofs.Tallying.{classes-few}
+use Rattle.relax.specs.Bound.{Nests, Counted, together}
+use Rattle.relax.specs.declared.bound.Ranked.{Ranked}
 use Rattle.relax.proofs.to_finer.Statement.{statement}
 use Rattle.relax.proofs.to_finer.Tie as tie
 
@@ -54,7 +56,10 @@ cast-most : tie.Need-cast-most
 cast-most c = search needs
 
 most-requires-2 : tie.Need-most-requires-2
-most-requires-2 c κs = search needs
+most-requires-2 c κs =
+    let t = c .before .before in
+    let s = t .before .before .before .before .before in
+    (t .ranks .ensures .by-rank .sized, classes-few (s .pre .0 .few-people) (t .ranks .ensures), search needs)
 
 least-requires : tie.Need-least-requires
 least-requires c κs = search needs
@@ -65,26 +70,30 @@ scope-requires-2 c κs = search needs
 pack-requires : tie.Need-pack-requires
 pack-requires c κs = search needs
 
--- the tally is that of the rule's own level
-tally : (c : tie.After-most2)
-    → Tally (c .before .before .before .before .before .before .before .args .size .people)
-    (numbered (classIn (c .before .before .before .before .before .before .before .args .class .now) (levelIn (c .before .before .before .before .before .before .before .args .r)))
-    (classIn (c .before .before .before .before .before .before .before .args .class .now) (c .before .before .before .before .before .before .before .args .q)))
-    (c .before .before .ranks .result)
-tally c =
-    let s = c .before .before .before .before .before .before .before in
-    subst (λ (k : ℕ). Tally (s .args .size .people) (numbered (classIn (s .args .class .now) k) (classIn (s .args .class .now) (s .args .q))) (c .before .before .ranks .result))
-    (c .before .before .before .level .ensures .0) (c .before .before .ranks .ensures)
+-- where the function starts, and the classes found
+abbrev start : tie.After-most2 → tie.Start
+start c = c .before .before .before .before .before .before .before .before
+
+abbrev found : tie.After-most2 → Ranked
+found c = c .before .before .before .ranks .result
+
+-- the classes counted are those of the rule's own level
+counted : (c : tie.After-most2)
+    → let a = start c .args in Counted (a .size .people) (classIn (a .class .now) (levelIn (a .r))) (classIn (a .class .now) (a .q)) (found c .classes) (found c .counts)
+counted c =
+    let a = start c .args in
+    subst (λ (k : ℕ). Counted (a .size .people) (classIn (a .class .now) k) (classIn (a .class .now) (a .q)) (found c .classes) (found c .counts))
+    (c .before .before .before .before .level .ensures .0) (c .before .before .before .ranks .ensures)
 
 -- the bound is that of the rule's greatest count
-bound : (c : tie.After-most2) → c .most2 .result ≡ together (c .before .before .ranks .result) (mostIn (c .before .before .before .before .before .before .before .args .r)) 63
-bound c = c .most2 .ensures ∙ ap (λ (m : ℕ). together (c .before .before .ranks .result) m 63) (c .before .before .before .before .before .before .most .ensures .0)
+bound : (c : tie.After-most2) → c .most2 .result ≡ together (found c .counts) (mostIn (start c .args .r)) (found c .classes - 1)
+bound c = c .most2 .ensures ∙ ap (λ (m : ℕ). together (found c .counts) m (found c .classes - 1)) (c .before .before .before .before .before .before .before .most .ensures .0)
 
 returns-2 : tie.Need-returns-2
 returns-2 c =
     let t = c .before .before .before .before .before in
-    let s = t .before .before .before .before .before .before .before in
-    follows-all (s .pre .0) (s .pre .1) (tally t) (packed-as (c .before .before .least .ensures .0) refl (c .before .scope2 .ensures) (c .pack .ensures))
+    let s = start t in
+    follows-all (s .pre .0) (s .pre .1) (counted t) (packed-as (c .before .before .least .ensures .0) refl (c .before .scope2 .ensures) (c .pack .ensures))
 
 least-requires-2 : tie.Need-least-requires-2
 least-requires-2 c κs = search needs
@@ -98,8 +107,8 @@ pack-requires-2 c κs = search needs
 returns-3 : tie.Need-returns-3
 returns-3 c =
     let t = c .before .before .before .before .before in
-    let s = t .before .before .before .before .before .before .before in
-    follows-limited (s .pre .0) (s .pre .1) (tally t) (subst (λ (b : ℕ). b < s .args .size .steps) (bound t) (omega (arith, c .before .before .before .if2 .left)))
+    let s = start t in
+    follows-limited (s .pre .0) (s .pre .1) (counted t) (subst (λ (b : ℕ). b < s .args .size .steps) (bound t) (omega (arith, c .before .before .before .if2 .left)))
     (packed-as (c .before .before .least2 .ensures .0) (bound t) (c .before .scope3 .ensures) (c .pack2 .ensures))
 
 pub to-finer-spec : {M : Type 1} → statement M

@@ -23,7 +23,7 @@ returns : tie.Need-returns
 returns c =
     let p = c .before .before .before in
     let k = p .before .before .before .before .before .before in
-    poses _ _ _ _ (start k .pre) _ (k .classes .ensures) _ (p .packed .ensures) (c .keep .ensures)
+    poses _ _ _ _ (start k .pre) _ (k .classes .ensures) _ (p .packed .ensures) _ (c .keep .ensures)
 
 pub pose-spec : {M : Type 1} → statement M
 pose-spec = tie.close (tie.spec classes-requires packed-requires keep-requires returns)

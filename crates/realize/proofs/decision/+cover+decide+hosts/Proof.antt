@@ -93,10 +93,10 @@ hosts-claims t = (
 )
 
 abbrev cover-Inv-loop : cover-lts.InvT-loop
-cover-Inv-loop may label crowd reach task heads edges₀ rest₀ edges rest = Linked may label crowd reach task heads rest edges
+cover-Inv-loop may label nest reach task heads edges₀ rest₀ edges rest = Linked may label nest reach task heads rest edges
 
 abbrev cover-μ-loop : cover-lts.MeasureT-loop
-cover-μ-loop may label crowd reach task heads edges₀ rest₀ edges rest = rest
+cover-μ-loop may label nest reach task heads edges₀ rest₀ edges rest = rest
 
 cover-groups-of-requires : (t : ℕ) → cover-lts.Need-groups-of-requires (cover-claims t) (cover-at t) cover.Post cover-Inv-loop cover-μ-loop
 cover-groups-of-requires t c κs = let p = c .pre .1 in (p .0 .labels, omega arith, p .0 .below)
@@ -164,10 +164,10 @@ decide-returns-2 : (t : ℕ) → decide-lts.Need-returns-2 (decide-claims t) (de
 decide-returns-2 t c = let e = c .before in decided-covering (e .if1 .left) (e .before .before .pre .1 .below) (c .cover .ensures)
 
 abbrev hosts-Inv-loop : hosts-lts.InvT-loop
-hosts-Inv-loop may label crowd reach task g row found₀ rest₀ found rest = Hosting may label crowd reach task row rest found
+hosts-Inv-loop may label nest reach task g row found₀ rest₀ found rest = Hosting may label nest reach task row rest found
 
 abbrev hosts-μ-loop : hosts-lts.MeasureT-loop
-hosts-μ-loop may label crowd reach task g row found₀ rest₀ found rest = rest
+hosts-μ-loop may label nest reach task g row found₀ rest₀ found rest = rest
 
 hosts-candidates-requires : (t : ℕ) → hosts-lts.Need-candidates-requires (hosts-claims t) (hosts-at t) hosts.Post hosts-Inv-loop hosts-μ-loop
 hosts-candidates-requires t c κs = let p = c .pre .1 in (p .0 .reaches, omega arith, p .0 .below)
@@ -202,7 +202,7 @@ abbrev hosts-start : (t : ℕ) → hosts-lts.After-take (hosts-claims t) (hosts-
     → hosts-lts.Start (hosts-claims t) (hosts-at t) hosts.Post hosts-Inv-loop hosts-μ-loop
 hosts-start t c = c .before .before .before .before .before .before .before .before .before
 
--- `crowd` has the people of class v
+-- `nest` has what lies inside class v
 hosts-index : (t : ℕ) (c : hosts-lts.After-take (hosts-claims t) (hosts-at t) hosts.Post hosts-Inv-loop hosts-μ-loop)
     → hosts-start t c .args .task .q * 64 + c .take .result .first < 192
 hosts-index t c = let p = hosts-start t c .pre .1 in omega (arith, c .take .ensures .0)
@@ -210,17 +210,17 @@ hosts-index t c = let p = hosts-start t c .pre .1 in omega (arith, c .take .ensu
 hosts-add-q : (t : ℕ) → hosts-lts.Need-add-q (hosts-claims t) (hosts-at t) hosts.Post hosts-Inv-loop hosts-μ-loop
 hosts-add-q t c = omega (arith, hosts-index t (c .before))
 
-hosts-mul-people : (t : ℕ) → hosts-lts.Need-mul-people (hosts-claims t) (hosts-at t) hosts.Post hosts-Inv-loop hosts-μ-loop
-hosts-mul-people t c = omega (arith, hosts-index t (c .before .before))
+hosts-mul-inside : (t : ℕ) → hosts-lts.Need-mul-inside (hosts-claims t) (hosts-at t) hosts.Post hosts-Inv-loop hosts-μ-loop
+hosts-mul-inside t c = omega (arith, hosts-index t (c .before .before))
 
-hosts-add-people : (t : ℕ) → hosts-lts.Need-add-people (hosts-claims t) (hosts-at t) hosts.Post hosts-Inv-loop hosts-μ-loop
-hosts-add-people t c = omega (arith, hosts-index t (c .before .before))
+hosts-add-inside : (t : ℕ) → hosts-lts.Need-add-inside (hosts-claims t) (hosts-at t) hosts.Post hosts-Inv-loop hosts-μ-loop
+hosts-add-inside t c = omega (arith, hosts-index t (c .before .before))
 
-hosts-mul-people-2 : (t : ℕ) → hosts-lts.Need-mul-people-2 (hosts-claims t) (hosts-at t) hosts.Post hosts-Inv-loop hosts-μ-loop
-hosts-mul-people-2 t c = omega (arith, hosts-index t (c .before .before))
+hosts-mul-inside-2 : (t : ℕ) → hosts-lts.Need-mul-inside-2 (hosts-claims t) (hosts-at t) hosts.Post hosts-Inv-loop hosts-μ-loop
+hosts-mul-inside-2 t c = omega (arith, hosts-index t (c .before .before))
 
-hosts-element-copy-out-people : (t : ℕ) → hosts-lts.Need-element-copy-out-people (hosts-claims t) (hosts-at t) hosts.Post hosts-Inv-loop hosts-μ-loop
-hosts-element-copy-out-people t c = omega (arith, hosts-index t (c .before .before))
+hosts-element-copy-out-inside : (t : ℕ) → hosts-lts.Need-element-copy-out-inside (hosts-claims t) (hosts-at t) hosts.Post hosts-Inv-loop hosts-μ-loop
+hosts-element-copy-out-inside t c = omega (arith, hosts-index t (c .before .before))
 
 hosts-decide-requires : (t : ℕ) → hosts-lts.Need-decide-requires (hosts-claims t) (hosts-at t) hosts.Post hosts-Inv-loop hosts-μ-loop
 hosts-decide-requires t c κs =
@@ -265,6 +265,6 @@ pub +cover+decide+hosts-spec : {M : Type 1} → statement M
     (decide-staffed-requires t) (decide-returns t) (decide-cover-requires t) (decide-returns-2 t))
     λ t. hosts-lts.spec (hosts-claims t) (hosts-at t) hosts.Post hosts-Inv-loop hosts-μ-loop
     (hosts-candidates-requires t) (hosts-add-if1 t) (hosts-returns t) (hosts-without-requires t) (hosts-returns-2 t) (hosts-loop-holds t)
-    (hosts-take-requires t) (hosts-add-q t) (hosts-mul-people t) (hosts-add-people t) (hosts-mul-people-2 t)
-    (hosts-element-copy-out-people t) (hosts-decide-requires t) (hosts-loop-less t) (hosts-loop-again t) (hosts-with-requires t)
+    (hosts-take-requires t) (hosts-add-q t) (hosts-mul-inside t) (hosts-add-inside t) (hosts-mul-inside-2 t)
+    (hosts-element-copy-out-inside t) (hosts-decide-requires t) (hosts-loop-less t) (hosts-loop-again t) (hosts-with-requires t)
     (hosts-loop-less-2 t) (hosts-loop-again-2 t) (hosts-returns-3 t)

@@ -10,13 +10,13 @@ use Rattle.realize.proofs.decision.candidates.Statement.{statement}
 use Rattle.realize.proofs.decision.candidates.Tie as tie
 
 abbrev Inv-loop : tie.InvT-loop
-Inv-loop reach q group people found₀ rest₀ found rest = Candidates reach q group people rest found
+Inv-loop reach q group inside found₀ rest₀ found rest = Candidates reach q group inside rest found
 
 abbrev μ-loop : tie.MeasureT-loop
-μ-loop reach q group people found₀ rest₀ found rest = rest
+μ-loop reach q group inside found₀ rest₀ found rest = rest
 
 loop-holds : tie.Need-loop-holds Inv-loop μ-loop
-loop-holds c = candidates-none (c .args .reach .now) (c .args .q) (c .args .group) (c .args .people)
+loop-holds c = candidates-none (c .args .reach .now) (c .args .q) (c .args .group) (c .args .inside)
 
 take-requires : tie.Need-take-requires Inv-loop μ-loop
 take-requires c κs = search needs

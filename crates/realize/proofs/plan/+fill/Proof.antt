@@ -49,10 +49,10 @@ claims t = (
 )
 
 abbrev Inv-loop : fill-lts.InvT-loop
-Inv-loop may label crowd reach task plan₀ at heads rest₀ plan rest = Sent may label crowd reach task heads rest at plan₀ plan
+Inv-loop may label nest reach task plan₀ at heads rest₀ plan rest = Sent may label nest reach task heads rest at plan₀ plan
 
 abbrev μ-loop : fill-lts.MeasureT-loop
-μ-loop may label crowd reach task plan₀ at heads rest₀ plan rest = rest
+μ-loop may label nest reach task plan₀ at heads rest₀ plan rest = rest
 
 staff-requires : (t : ℕ) → fill-lts.Need-staff-requires (claims t) (fill-at t) fill.Post Inv-loop μ-loop
 staff-requires t c κs = let p = c .before .before .before .pre .1 in (p .0 .masks, p .0 .below, p .1)
@@ -87,7 +87,7 @@ below t c =
     let s = h .before .before .before .before .before .before .before in
     taken-below (c .take .ensures .1) 12 (h .groups-of .result) (heads-few (s .pre .1 .0) _ (h .groups-of .ensures)) (c .before .before .loop .inv .part)
 
--- `crowd` has the people of its class
+-- `nest` has what lies inside its class
 index : (t : ℕ) (c : fill-lts.After-take (claims t) (fill-at t) fill.Post Inv-loop μ-loop)
     → let a = c .before .before .before .before .before .before .before in
     a .before .before .before .args .task .q * 64 + getD (a .cover .result .at) (c .take .result .first) 0 < 192
@@ -120,17 +120,17 @@ cast-v t c = omega (arith, index t c)
 add-q : (t : ℕ) → fill-lts.Need-add-q (claims t) (fill-at t) fill.Post Inv-loop μ-loop
 add-q t c = omega (arith, index t (c .before .before))
 
-mul-people : (t : ℕ) → fill-lts.Need-mul-people (claims t) (fill-at t) fill.Post Inv-loop μ-loop
-mul-people t c = omega (arith, index t (c .before .before .before))
+mul-inside : (t : ℕ) → fill-lts.Need-mul-inside (claims t) (fill-at t) fill.Post Inv-loop μ-loop
+mul-inside t c = omega (arith, index t (c .before .before .before))
 
-add-people : (t : ℕ) → fill-lts.Need-add-people (claims t) (fill-at t) fill.Post Inv-loop μ-loop
-add-people t c = omega (arith, index t (c .before .before .before))
+add-inside : (t : ℕ) → fill-lts.Need-add-inside (claims t) (fill-at t) fill.Post Inv-loop μ-loop
+add-inside t c = omega (arith, index t (c .before .before .before))
 
-mul-people-2 : (t : ℕ) → fill-lts.Need-mul-people-2 (claims t) (fill-at t) fill.Post Inv-loop μ-loop
-mul-people-2 t c = omega (arith, index t (c .before .before .before))
+mul-inside-2 : (t : ℕ) → fill-lts.Need-mul-inside-2 (claims t) (fill-at t) fill.Post Inv-loop μ-loop
+mul-inside-2 t c = omega (arith, index t (c .before .before .before))
 
-element-copy-out-people : (t : ℕ) → fill-lts.Need-element-copy-out-people (claims t) (fill-at t) fill.Post Inv-loop μ-loop
-element-copy-out-people t c = omega (arith, index t (c .before .before .before))
+element-copy-out-inside : (t : ℕ) → fill-lts.Need-element-copy-out-inside (claims t) (fill-at t) fill.Post Inv-loop μ-loop
+element-copy-out-inside t c = omega (arith, index t (c .before .before .before))
 
 fill-requires : (t : ℕ) → fill-lts.Need-fill-requires (claims t) (fill-at t) fill.Post Inv-loop μ-loop
 fill-requires t c κs =
@@ -162,5 +162,5 @@ pub +fill-spec : {M : Type 1} → statement M
     close μ-fill
     λ t. fill-lts.spec (claims t) (fill-at t) fill.Post Inv-loop μ-loop
     (staff-requires t) (returns t) (cover-requires t) (returns-2 t) (groups-of-requires t) (loop-holds t) (take-requires t) (array-read-v t)
-    (cast-v t) (cast-members t) (members-requires t) (add-q t) (mul-people t) (add-people t) (mul-people-2 t) (element-copy-out-people t)
+    (cast-v t) (cast-members t) (members-requires t) (add-q t) (mul-inside t) (add-inside t) (mul-inside-2 t) (element-copy-out-inside t)
     (fill-requires t) (loop-less t) (loop-again t) (returns-3 t)

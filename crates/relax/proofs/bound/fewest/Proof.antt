@@ -7,16 +7,16 @@ use Rattle.relax.proofs.bound.fewest.Statement.{statement}
 use Rattle.relax.proofs.bound.fewest.Tie as tie
 
 abbrev Inv-loop : tie.InvT-loop
-Inv-loop ranks k m₀ m = (m ≤ k) × Needs ranks k m
+Inv-loop counts classes k m₀ m = (m ≤ k) × Needs counts (classes - 1) k m
 
 abbrev μ-loop : tie.MeasureT-loop
-μ-loop ranks k m₀ m = k - m
+μ-loop counts classes k m₀ m = k - m
 
 loop-holds : tie.Need-loop-holds Inv-loop μ-loop
-loop-holds c = (omega arith, needs-one (c .args .ranks .now) (c .args .k) (c .pre .1))
+loop-holds c = (omega arith, needs-one (c .args .counts .now) (c .args .classes - 1) (c .args .k) (c .pre .2))
 
 most-requires : tie.Need-most-requires Inv-loop μ-loop
-most-requires c κs = (c .before .before .pre .0, omega arith)
+most-requires c κs = (c .before .before .pre .0, c .before .before .pre .1, omega arith)
 
 returns : tie.Need-returns Inv-loop μ-loop
 returns c = c .before .before .before .loop .inv .1
@@ -31,13 +31,13 @@ loop-again : tie.Need-loop-again Inv-loop μ-loop
 loop-again c =
     let a = c .before .before .before .before .args in
     let l = c .before .before .before .loop in
-    (omega arith, needs-more (a .ranks .now) (a .k) (l .m) (l .inv .1) (omega arith) (omega arith))
+    (omega arith, needs-more (a .counts .now) (a .classes - 1) (a .k) (l .m) (l .inv .1) (omega arith) (omega arith))
 
 returns-2 : tie.Need-returns-2 Inv-loop μ-loop
 returns-2 c =
     let a = c .before .before .args in
     let l = c .before .loop in
-    needs-all (a .ranks .now) (a .k) (l .m) (omega arith) (l .inv .1)
+    needs-all (a .counts .now) (a .classes - 1) (a .k) (l .m) (omega arith) (l .inv .1)
 
 pub fewest-spec : {M : Type 1} → statement M
 fewest-spec =

@@ -1,4 +1,4 @@
--- `relax::bound::most` meets its contract. The loop's invariant: the sum is that of the numbers passed. Assumes nothing.
+-- `relax::bound::most` meets its contract. The loop's invariant: the sum is that of the ranks passed. Assumes nothing.
 use mathlib.Core.Path.{_≡_, sym}
 use Prim.Native.Nat.{_*_, _-_, _≤_}
 use native.Mathlib.Omega.{arith}
@@ -8,13 +8,13 @@ use Rattle.relax.proofs.bound.most.Statement.{statement}
 use Rattle.relax.proofs.bound.most.Tie as tie
 
 abbrev Inv-loop : tie.InvT-loop
-Inv-loop ranks m sum₀ r₀ sum r = (1 ≤ r) × (r ≤ 64) × (sum ≡ together ranks m (r - 1)) × (sum ≤ 12 * r)
+Inv-loop counts classes m sum₀ r₀ sum r = (1 ≤ r) × (r - 1 ≤ classes - 1) × (sum ≡ together counts m (r - 1)) × (sum ≤ 12 * r)
 
 abbrev μ-loop : tie.MeasureT-loop
-μ-loop ranks m sum₀ r₀ sum r = 64 - r
+μ-loop counts classes m sum₀ r₀ sum r = classes - r
 
 loop-holds : tie.Need-loop-holds Inv-loop μ-loop
-loop-holds c = (omega arith, omega arith, sym (together-zero (c .args .ranks .now) (c .args .m)), omega arith)
+loop-holds c = (omega arith, omega arith, sym (together-zero (c .args .counts .now) (c .args .m)), omega arith)
 
 element-copy-out-all : tie.Need-element-copy-out-all Inv-loop μ-loop
 element-copy-out-all c = omega arith
@@ -35,7 +35,7 @@ loop-again : tie.Need-loop-again Inv-loop μ-loop
 loop-again c =
     let a = c .before .before .before .before .args in
     let l = c .before .before .before .loop in
-    (omega arith, omega arith, together-all (a .ranks .now) (a .m) (l .r) (l .sum) (l .inv .0) (l .inv .2) (c .if1 .taken), omega arith)
+    (omega arith, omega arith, together-all (a .counts .now) (a .m) (l .r) (l .sum) (l .inv .0) (l .inv .2) (c .if1 .taken), omega arith)
 
 add-sum-2 : tie.Need-add-sum-2 Inv-loop μ-loop
 add-sum-2 c = omega arith
@@ -50,13 +50,13 @@ loop-again-2 : tie.Need-loop-again-2 Inv-loop μ-loop
 loop-again-2 c =
     let a = c .before .before .before .before .args in
     let l = c .before .before .before .loop in
-    (omega arith, omega arith, together-part (a .ranks .now) (a .m) (l .r) (l .sum) (l .inv .0) (l .inv .2) (c .if1 .left), omega arith)
+    (omega arith, omega arith, together-part (a .counts .now) (a .m) (l .r) (l .sum) (l .inv .0) (l .inv .2) (c .if1 .left), omega arith)
 
 returns : tie.Need-returns Inv-loop μ-loop
 returns c =
     let a = c .before .before .args in
     let l = c .before .loop in
-    together-end (a .ranks .now) (a .m) (l .r) (l .sum) (l .inv .2) (omega arith)
+    together-end (a .counts .now) (a .m) (l .r) (l .sum) (a .classes - 1) (l .inv .2) (omega arith)
 
 pub most-spec : {M : Type 1} → statement M
 most-spec =

@@ -1,20 +1,20 @@
--- `relax::bound::ranks` meets its contract. The loop's invariant: the fine classes that the people passed name are counted. Assumes nothing.
+-- `relax::bound::ranks` meets its contract. The loop's invariant: the fine classes met at the people passed are counted. Assumes nothing.
 use Prim.Native.Nat.{_-_, _≤_, _<_}
 use native.Mathlib.Omega.{arith}
 use lib.ListN.{getD}
 use Rattle.pattern.specs.Tables.{classIn}
-use Rattle.relax.proofs.Tallying.{Ranking, ranking-none, ranking-past, ranking-more, next-few, count-few, ranked}
+use Rattle.relax.proofs.Tallying.{fine-below, Ranking, ranking-none, met-le, ranked, ranking-past, coarse-few, rank-few, count-few, ranking-more}
 use Rattle.relax.proofs.bound.ranks.Statement.{statement}
 use Rattle.relax.proofs.bound.ranks.Tie as tie
 
 abbrev Inv-loop : tie.InvT-loop
-Inv-loop people class coarse fine sizes₀ counts₀ p₀ sizes counts p = (p ≤ people) × Ranking p (classIn class coarse) (classIn class fine) sizes counts
+Inv-loop people class coarse fine sizes₀ counts₀ met₀ p₀ sizes counts met p = (p ≤ people) × Ranking people p (classIn class coarse) (classIn class fine) met sizes counts
 
 abbrev μ-loop : tie.MeasureT-loop
-μ-loop people class coarse fine sizes₀ counts₀ p₀ sizes counts p = people - p
+μ-loop people class coarse fine sizes₀ counts₀ met₀ p₀ sizes counts met p = people - p
 
 loop-holds : tie.Need-loop-holds Inv-loop μ-loop
-loop-holds c = (omega arith, ranking-none _ _)
+loop-holds c = (omega arith, ranking-none _ _ _)
 
 sub-if1 : tie.Need-sub-if1 Inv-loop μ-loop
 sub-if1 c = omega arith
@@ -29,7 +29,9 @@ element-copy-out-if1 : tie.Need-element-copy-out-if1 Inv-loop μ-loop
 element-copy-out-if1 c = omega arith
 
 cast-if1 : tie.Need-cast-if1 Inv-loop μ-loop
-cast-if1 c = omega (arith, c .before .before .before .pre .6 .fine-below (c .before .before .loop .p) (c .before .loop-test .taken))
+cast-if1 c =
+    let s = c .before .before .before in
+    omega (arith, fine-below (s .pre .6) (c .before .before .loop .p) (c .before .loop-test .taken))
 
 add-p : tie.Need-add-p Inv-loop μ-loop
 add-p c = omega arith
@@ -39,8 +41,12 @@ loop-less c = omega arith
 
 loop-again : tie.Need-loop-again Inv-loop μ-loop
 loop-again c =
-    let l = c .before .before .before .loop in
-    (omega arith, ranking-past _ _ (l .p) (l .sizes) (l .counts) (l .inv .1) (c .if1 .taken))
+    let t = c .before .before in
+    let s = t .before .before in
+    (omega arith, ranking-past (t .before .loop .inv .1) (s .pre .0) (s .pre .6) (t .loop-test .taken) (c .if1 .taken))
+
+add-met : tie.Need-add-met Inv-loop μ-loop
+add-met c = omega (arith, met-le (c .before .before .before .loop .inv .1))
 
 sub-v : tie.Need-sub-v Inv-loop μ-loop
 sub-v c = omega arith
@@ -57,16 +63,18 @@ element-copy-out-v c = omega arith
 -- the coarse class of a turn is that of a person
 inner : (c : tie.After-v Inv-loop μ-loop)
     → let l = c .before .before .before .before in let a = l .before .args in classIn (a .class .now) (a .coarse) (l .loop .p) < 64
-inner c = let t = c .before .before .before in omega (arith, t .before .before .pre .6 .coarse-below (t .before .loop .p) (t .loop-test .taken))
+inner c =
+    let t = c .before .before .before in
+    let s = t .before .before in
+    coarse-few (t .before .loop .inv .1) (s .pre .0) (s .pre .6) (t .loop-test .taken) (c .before .if1 .left)
 
--- and the number that the fine class gets in it is small
-number : (c : tie.After-v Inv-loop μ-loop)
+-- and the rank that the fine class gets in it is small
+its-rank : (c : tie.After-v Inv-loop μ-loop)
     → let l = c .before .before .before .before in let a = l .before .args in getD (l .loop .sizes) (classIn (a .class .now) (a .coarse) (l .loop .p)) 0 < 64
-number c =
-    let l = c .before .before .before .before in
-    let a = l .before .args in
-    next-few (classIn (a .class .now) (a .coarse)) (classIn (a .class .now) (a .fine)) (l .loop .p) (l .loop .sizes) (l .loop .counts) (l .loop .inv .1)
-    (omega arith) (c .before .if1 .left) (inner c)
+its-rank c =
+    let t = c .before .before .before in
+    let s = t .before .before in
+    rank-few (t .before .loop .inv .1) (s .pre .0) (s .pre .6) (t .loop-test .taken) (c .before .if1 .left)
 
 cast-v : tie.Need-cast-v Inv-loop μ-loop
 cast-v c = omega (arith, inner c)
@@ -75,32 +83,28 @@ array-read-r : tie.Need-array-read-r Inv-loop μ-loop
 array-read-r c = inner c
 
 cast-r : tie.Need-cast-r Inv-loop μ-loop
-cast-r c = omega (arith, number c)
+cast-r c = omega (arith, its-rank c)
 
 array-read-sizes : tie.Need-array-read-sizes Inv-loop μ-loop
 array-read-sizes c = inner c
 
 add-sizes : tie.Need-add-sizes Inv-loop μ-loop
-add-sizes c = omega (arith, number c)
+add-sizes c = omega (arith, its-rank c)
 
 array-write-sizes : tie.Need-array-write-sizes Inv-loop μ-loop
 array-write-sizes c = inner c
 
 array-read-counts : tie.Need-array-read-counts Inv-loop μ-loop
-array-read-counts c = omega (arith, number c)
+array-read-counts c = omega (arith, its-rank c)
 
 add-counts : tie.Need-add-counts Inv-loop μ-loop
 add-counts c =
-    let l = c .before .before .before .before in
-    let a = l .before .args in
-    omega (
-      arith,
-      count-few (classIn (a .class .now) (a .coarse)) (classIn (a .class .now) (a .fine)) (l .loop .p) (l .loop .sizes) (l .loop .counts)
-          (l .loop .inv .1) (omega arith) (c .before .if1 .left) (inner c) _ (number c),
-    )
+    let t = c .before .before .before in
+    let s = t .before .before in
+    omega (arith, count-few (t .before .loop .inv .1) (s .pre .0) (s .pre .6) (t .loop-test .taken) (c .before .if1 .left))
 
 array-write-counts : tie.Need-array-write-counts Inv-loop μ-loop
-array-write-counts c = omega (arith, number c)
+array-write-counts c = omega (arith, its-rank c)
 
 add-p-2 : tie.Need-add-p-2 Inv-loop μ-loop
 add-p-2 c = omega arith
@@ -110,17 +114,12 @@ loop-less-2 c = omega arith
 
 loop-again-2 : tie.Need-loop-again-2 Inv-loop μ-loop
 loop-again-2 c =
-    let l = c .before .before .before .before in
-    let a = l .before .args in (
-      omega arith,
-      ranking-more (classIn (a .class .now) (a .coarse)) (classIn (a .class .now) (a .fine)) (l .loop .p) (l .loop .sizes) (l .loop .counts) (l .loop .inv .1)
-          (omega arith) (c .before .if1 .left) (inner c),
-    )
+    let t = c .before .before .before in
+    let s = t .before .before in
+    (omega arith, ranking-more (t .before .loop .inv .1) (s .pre .0) (s .pre .6) (t .loop-test .taken) (c .before .if1 .left))
 
 returns : tie.Need-returns Inv-loop μ-loop
-returns c =
-    let l = c .before .loop in
-    ranked _ _ (l .p) (l .sizes) (l .counts) (l .inv .1) _ (omega arith)
+returns c = ranked (c .before .loop .inv .1) (omega arith)
 
 pub ranks-spec : {M : Type 1} → statement M
 ranks-spec =
@@ -137,6 +136,7 @@ ranks-spec =
     add-p
     loop-less
     loop-again
+    add-met
     sub-v
     mul-v
     add-v

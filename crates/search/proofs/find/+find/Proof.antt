@@ -9,7 +9,8 @@ use borrow.Fn.Kinds.{In}
 use borrow.Fn.PlainCycle.{Measures, is, falls, and}
 use Rattle.bits.proofs.SetLaws.{removed-less}
 use Rattle.bits.proofs.Masks.{bits-below}
-use Rattle.pattern.specs.Tables.{mayIn, jobIn}
+use Rattle.pattern.specs.Tables.{mayIn, nestedJob}
+use Rattle.pattern.proofs.Nested.{nested-refining}
 use Rattle.search.specs.State.{WaysTried}
 use Rattle.search.proofs.Turn.{named-touched, outcome-end, tried-none, reached-next, outcome-won, turn-growable, tried-lost, tried-failed, outcome-lost}
 use Rattle.search.proofs.find.find.Reads as find
@@ -49,13 +50,13 @@ claims t = (
 )
 
 abbrev find-Inv-loop : find-lts.InvT-loop
-find-Inv-loop size crowd rule of may reach front label₀ weight₀ s next among ways w₀ label weight w =
+find-Inv-loop size nest rule of may reach front label₀ weight₀ s next among ways w₀ label weight w =
     (w ≤ size .levels * 12 + 1)
     × (length weight ≡ 12)
-    × WaysTried (jobIn size crowd rule) (mayIn may) (front .placed) s w label₀ label
+    × WaysTried (nestedJob size nest rule) (mayIn may) (front .placed) s w label₀ label
 
 abbrev find-μ-loop : find-lts.MeasureT-loop
-find-μ-loop size crowd rule of may reach front label₀ weight₀ s next among ways w₀ label weight w = size .levels * 12 + 1 - w
+find-μ-loop size nest rule of may reach front label₀ weight₀ s next among ways w₀ label weight w = size .levels * 12 + 1 - w
 
 -- where the call begins, the choice of a step, and from the tests of a turn back to the loop
 abbrev start : (t : ℕ) → find-lts.After-next-step (claims t) (find-at t) find.Post find-Inv-loop find-μ-loop → find-lts.Start (claims t) (find-at t) find.Post find-Inv-loop find-μ-loop
@@ -128,7 +129,7 @@ find-grow-requires t c κs =
       r .1,
       turn-growable (r .3) ch ad go (l .loop .inv .2) (omega (arith, c .before .loop-test .taken)) (r .0 .given .ruled .rule-ok),
       r .4,
-      named-touched (r .0 .given) (r .0 .naming) (below t (chosen t l)),
+      named-touched (r .0 .naming) (below t (chosen t l)),
     )
 
 find-add-w : (t : ℕ) → find-lts.Need-add-w (claims t) (find-at t) find.Post find-Inv-loop find-μ-loop
@@ -201,11 +202,12 @@ find-blame-requires t c κs = (below t (chosen t (c .before .before)), c .before
 find-returns-3 : (t : ℕ) → find-lts.Need-returns-3 (claims t) (find-at t) find.Post find-Inv-loop find-μ-loop
 find-returns-3 t c =
     let l = c .before .before .before in
-    let r = start t (chosen t l) .pre .1 in
+    let s = start t (chosen t l) in
+    let r = s .pre .1 in
     let ch = chosen t l .next-step .ensures in
     let ad = l .before .before .before .before .with .ensures in
     let go = l .before .before .before .without .ensures in
-    (outcome-lost (r .3) ch ad go (r .0 .given .refining) (r .0 .given .ruled .few-steps) (l .loop .inv .2) (omega (arith, c .before .before .loop-test .left)), c .blame .ensures)
+    (outcome-lost (r .3) ch ad go (nested-refining (s .args .size) (s .args .nest .now) (s .args .rule .now)) (r .0 .given .ruled .few-steps) (l .loop .inv .2) (omega (arith, c .before .before .loop-test .left)), c .blame .ensures)
 
 pub +find-spec : {M : Type 1} → statement M
 +find-spec = close μ-find λ t. find-lts.spec (claims t)

@@ -40,7 +40,7 @@ returns-2 c =
     let m = c .before .meets in
     let s = start (joining (c .before)) in
     let a = s .args in
-    grew-unmet (s .pre .0) (s .pre .2) (a .may .now) (a .reach .now) (s .pre .3) (m .result) (m .ensures) (c .if2 .taken)
+    grew-unmet (s .pre .0 .ruled .few-steps) (s .pre .2) (a .may .now) (a .reach .now) (s .pre .3) (m .result) (m .ensures) (c .if2 .taken)
 
 place-requires : tie.Need-place-requires
 place-requires c κs = search needs

@@ -1,11 +1,18 @@
 -- `search::patterns::by_patterns` meets its contract. Assumes nothing.
-use mathlib.Core.Path.{refl}
+use mathlib.Core.Path.{refl, sym}
 use borrow.Author.Needs.{needs}
+use Rattle.workflow.specs.Same.{SamePlans}
+use Rattle.workflow.proofs.Same.{same-trans}
 use Rattle.levels.specs.Tabled.{tabledJob}
-use Rattle.pattern.specs.Tables.{mayIn}
+use Rattle.levels.proofs.Crowds.{given-gathered}
+use Rattle.levels.proofs.Nested.{nested-number, nested-given, nested-same}
+use Rattle.pattern.specs.Given.{Classed, Nest}
+use Rattle.pattern.specs.Tables.{classIn, mayIn, nestedJob}
+use Rattle.pattern.proofs.Classes.{numbered-classed, numbered-same, classed-table}
+use Rattle.pattern.proofs.Nested.{nested-small}
 use Rattle.realize.specs.Parts.{Offers}
 use Rattle.realize.proofs.Reach.{reachable-offers}
-use Rattle.search.proofs.Ends.{blank, all-below, finished-sized, existence-unstaffed, existence-ruled-out, start-patterned, reached-start, existence-lost, existence-won}
+use Rattle.search.proofs.Ends.{blank, all-below, finished-sized, existence-unstaffed, existence-ruled-out, start-patterned, reached-start, existence-lost, existence-won, existence-moves}
 use Rattle.search.proofs.LowerLimits.{existence-short}
 use Rattle.search.proofs.Node.{rules-among}
 use Rattle.search.proofs.Opposing.{existence-opposed}
@@ -23,13 +30,16 @@ opposing c = c .before .before
 abbrev staffing : tie.After-eligible → tie.After-staffed
 staffing c = c .before .before .before .before .before
 
-abbrev ruling : tie.After-reaches → tie.After-eligible
-ruling c = c .before .before .before .before
+abbrev ruling : tie.After-nests → tie.After-eligible
+ruling c = c .before .before .before .before .before .before
+
+abbrev nesting : tie.After-reaches → tie.After-nests
+nesting c = c .before .before .before
 
 abbrev reaching : tie.After-find → tie.After-reaches
-reaching c = c .before .before .before .before .before .before .before .before .before .before .before .before .before .before .before
+reaching c = c .before .before .before .before .before .before .before .before .before .before .before .before .before .before
 
-abbrev begun : tie.After-reaches → tie.Start
+abbrev begun : tie.After-nests → tie.Start
 begun c = start (opposing (staffing (ruling c)))
 
 opposed-requires : tie.Need-opposed-requires
@@ -51,7 +61,7 @@ returns-2 : tie.Need-returns-2
 returns-2 c =
     let t = c .before in
     let s = start (opposing t) in (
-      existence-unstaffed (s .pre .0 .tabled .given) (s .args .may .now) (s .args .plan .now) (s .pre .3) (t .staffed .result) (t .staffed .ensures) (c .if2 .taken),
+      existence-unstaffed (s .pre .0 .tabled .given .ruled) (s .args .may .now) (s .args .plan .now) (s .pre .3) (t .staffed .result) (t .staffed .ensures) (c .if2 .taken),
       s .pre .2,
     )
 
@@ -63,7 +73,7 @@ eligible-requires c κs =
     let b = c .before .before in
     let s = start (opposing (b .before .before)) in
     let g = s .pre .0 .tabled .given in
-    rules-among g (s .args .may .now) 0 blank (b .below .result) (start-patterned g (s .args .may .now) blank refl)
+    rules-among (g .ruled) (s .args .may .now) 0 blank (b .below .result) (start-patterned {class = classIn (s .args .tables .crowd)} (g .ruled) (s .args .may .now) blank refl)
     (all-below (b .below .ensures))
 
 returns-3 : tie.Need-returns-3
@@ -71,56 +81,94 @@ returns-3 c =
     let e = c .before in
     let b = e .before .before .before in
     let s = start (opposing (staffing e)) in (
-      existence-ruled-out (s .pre .0 .tabled .given) (s .args .may .now) (s .args .plan .now) blank (s .pre .3) (b .below .result) (b .below .ensures)
+      existence-ruled-out (s .pre .0 .tabled .given .ruled) (s .args .may .now) (s .pre .0 .tabled .given .refining) (s .args .plan .now) blank (s .pre .3) (b .below .result) (b .below .ensures)
           (e .eligible .result) (e .eligible .ensures) (c .if3 .taken),
       s .pre .2,
     )
 
-reaches-requires : tie.Need-reaches-requires
-reaches-requires c κs = search needs
+-- the job by the numbers of its classes
+classed : (c : tie.Start) → let t = c .args .tables in Classed (t .size) (t .class) (t .rule)
+classed c = numbered-classed (c .pre .0 .tabled .given) (c .pre .0 .numbers)
 
-limits-reached-requires : tie.Need-limits-reached-requires
-limits-reached-requires c κs = search needs
+nests-requires : tie.Need-nests-requires
+nests-requires c κs =
+    let s = start (opposing (staffing (c .before .before .before .before .before))) in
+    let r = s .pre .0 in
+    let g = r .tabled .given in
+    (g .few-people, g .ruled .few-levels, r .numbers .sized, given-gathered g (r .numbers))
+
+-- the table of what lies inside each class
+given : (c : tie.After-nests) → let t = begun c .args .tables in Nest (t .size) (c .nests .result) (t .rule)
+given c = nested-given (classed (begun c)) (c .nests .ensures)
+
+-- the job of the tables and the job by what lies inside its classes have the same plans
+same : (c : tie.After-nests) → let t = begun c .args .tables in SamePlans (tabledJob t) (nestedJob (t .size) (c .nests .result) (t .rule))
+same c =
+    let s = begun c in
+    same-trans (numbered-same (s .pre .0 .tabled .given) (s .pre .0 .numbers)) (nested-same (classed s) (c .nests .ensures))
+
+reaches-requires : tie.Need-reaches-requires
+reaches-requires c κs =
+    let n = c .before .before in
+    let s = begun n in
+    (s .pre .0 .tabled .given .ruled .few-levels, classed-table (classed s), n .nests .ensures, s .pre .1)
 
 -- the table of the classes with somebody for each step
-offers : (c : tie.After-reaches) → let a = begun c .args in Offers (tabledJob (a .tables)) (a .may .now) (c .reaches .result)
-offers c = let r = begun c .pre .0 in reachable-offers (r .tabled .given) (r .names) (c .reaches .ensures)
+offers : (c : tie.After-reaches) → let n = nesting c in let s = begun n in let t = s .args .tables in
+    Offers (nestedJob (t .size) (n .nests .result) (t .rule)) (s .args .may .now) (c .reaches .result)
+offers c =
+    let n = nesting c in
+    reachable-offers (λ q p d l. sym (nested-number (classed (begun n)) (n .nests .ensures) q p d l)) (c .reaches .ensures)
+
+limits-reached-requires : tie.Need-limits-reached-requires
+limits-reached-requires c κs =
+    let r = c .before .before in
+    (begun (nesting r) .pre .0 .tabled .given .ruled, r .reaches .ensures .sized)
 
 returns-4 : tie.Need-returns-4
 returns-4 c =
     let r = c .before .before .before .before in
-    let s = begun r in
-    let l = c .before .limits-reached in
-    (existence-short (s .pre .0 .tabled .given) (s .args .may .now) (offers r) (s .args .plan .now) (s .pre .3) (l .result) (l .ensures) (c .if4 .taken), s .pre .2)
+    let n = nesting r in
+    let s = begun n in
+    let l = c .before .limits-reached in (
+      existence-moves (same n) (mayIn (s .args .may .now))
+          (existence-short (given n .ruled) (nested-small (given n)) (s .args .may .now) (offers r) (s .args .plan .now) (s .pre .3) (l .result) (l .ensures) (c .if4 .taken)),
+      s .pre .2,
+    )
 
 named-requires : tie.Need-named-requires
-named-requires c κs = let t = begun (c .before .before .before .before .before .before .before) .pre .0 .tabled in (t .given .ruled .few-steps, t .naming .sized)
+named-requires c κs = let t = begun (nesting (c .before .before .before .before .before .before)) .pre .0 .tabled in (t .given .ruled .few-steps, t .naming .sized)
 
 find-requires : tie.Need-find-requires
 find-requires c κs =
     let n = c .before .before .before .before .before .before in
-    let r = n .before .before .before .before .before .before .before .before in
-    let e = ruling r in
+    let r = n .before .before .before .before .before .before .before in
+    let k = nesting r in
+    let e = ruling k in
     let m = e .before .before .before .below in
-    let s = begun r in
+    let s = begun k in
     let t = s .pre .0 .tabled in (
-      t,
+      record { given = given k; naming = t .naming },
       s .pre .1,
       s .pre .2,
-      reached-start (t .given) (s .args .may .now) (n .named .result) (s .args .tables .of) blank refl (m .result) (m .ensures) (e .eligible .result) (e .eligible .ensures)
-          (r .before .before .before .if3 .left) (t .naming) (n .named .ensures),
+      reached-start (t .given .ruled) (s .args .may .now) (n .named .result) (s .args .tables .of) blank refl (m .result) (m .ensures) (e .eligible .result) (e .eligible .ensures)
+          (k .before .before .before .before .before .if3 .left) (t .naming) (n .named .ensures),
       offers r,
     )
 
 returns-5 : tie.Need-returns-5
 returns-5 c =
     let f = c .before in
-    let s = begun (reaching f) in
-    (existence-lost (s .pre .0 .tabled .given) (s .args .may .now) (s .args .plan .now) blank (f .find .result) (s .pre .3) (f .find .ensures .0) (c .if5 .taken), f .find .ensures .1)
+    let k = nesting (reaching f) in
+    let s = begun k in (
+      existence-moves (same k) (mayIn (s .args .may .now))
+          (existence-lost (s .pre .0 .tabled .given .ruled) (s .args .may .now) (s .args .plan .now) blank (f .find .result) (s .pre .3) (f .find .ensures .0) (c .if5 .taken)),
+      f .find .ensures .1,
+    )
 
 give-first-requires : tie.Need-give-first-requires
 give-first-requires c κs =
-    let p = begun (reaching (c .before .before)) .pre in
+    let p = begun (nesting (reaching (c .before .before))) .pre in
     (p .0 .tabled .given .ruled .few-steps, p .1, p .3)
 
 realize-requires : tie.Need-realize-requires
@@ -128,9 +176,9 @@ realize-requires c κs =
     let g = c .before .before .before .before in
     let e = g .before .before in
     let r = reaching (e .before) in
-    let s = begun r in
+    let s = begun (nesting r) in
     let o = e .before .find in (
-      finished-sized (s .pre .0 .tabled .given) (s .args .may .now) (o .result) (s .pre .1) (o .ensures .0) (e .if5 .left) (r .reaches .ensures .sized),
+      finished-sized (given (nesting r)) (s .args .may .now) (o .result) (s .pre .1) (o .ensures .0) (e .if5 .left) (r .reaches .ensures .sized),
       s .pre .0 .tabled .given .few-people,
       g .give-first .ensures .sized,
     )
@@ -140,11 +188,13 @@ returns-6 c =
     let g = c .before .before .before .before .before in
     let e = g .before .before in
     let r = reaching (e .before) in
-    let u = (ruling r) .before .before .before .before in
-    let s = begun r in
+    let k = nesting r in
+    let u = (ruling k) .before .before .before .before in
+    let s = begun k in
     let o = e .before .find in (
-      existence-won (s .pre .0 .tabled .given) (s .args .may .now) (offers r) (s .args .plan .now) (u .before .staffed .result) (o .result) (u .before .staffed .ensures) (u .if2 .left)
-          (o .ensures .0) (e .if5 .left) (g .give-first .ensures) (c .realize .ensures),
+      existence-moves (same k) (mayIn (s .args .may .now))
+          (existence-won (given k) (s .args .may .now) (offers r) (s .args .plan .now) (u .before .staffed .result) (o .result) (u .before .staffed .ensures) (u .if2 .left)
+          (o .ensures .0) (e .if5 .left) (g .give-first .ensures) (c .realize .ensures)),
       o .ensures .1,
     )
 
@@ -159,6 +209,7 @@ by-patterns-spec =
     below-requires
     eligible-requires
     returns-3
+    nests-requires
     reaches-requires
     limits-reached-requires
     returns-4

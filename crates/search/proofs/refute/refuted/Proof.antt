@@ -1,16 +1,16 @@
 -- `search::refute::refuted` meets its contract: every valid plan is one of the relaxed job. Assumes nothing.
 use borrow.Author.Needs.{needs}
 use Rattle.pattern.specs.Given.{Classed}
-use Rattle.pattern.proofs.Classes.{named-classed}
+use Rattle.pattern.proofs.Classes.{numbered-classed}
 use Rattle.relax.specs.Relaxed.{Relaxes}
 use Rattle.relax.proofs.Relaxation.{relaxes}
 use Rattle.search.proofs.Relaxing.{refuting}
 use Rattle.search.proofs.refute.refuted.Statement.{statement}
 use Rattle.search.proofs.refute.refuted.Tie as tie
 
--- the job by the names of its classes
+-- the job by the numbers of its classes
 classed : (c : tie.Start) → Classed (c .args .tables .size) (c .args .tables .class) (c .args .tables .rule)
-classed c = named-classed (c .pre .0 .tabled .given) (c .pre .0 .names)
+classed c = numbered-classed (c .pre .0 .tabled .given) (c .pre .0 .numbers)
 
 carry-requires : tie.Need-carry-requires
 carry-requires c κs = let s = c .before .before .before .before in (classed s, s .pre .3, s .pre .4)

@@ -1,8 +1,8 @@
--- Where the first person of the slot has the number, it is the first with it; otherwise all are gone through. Assumes nothing.
+-- Where the first person of the slot has the word, it is the first with it; otherwise all are gone through. Assumes nothing.
 use borrow.Author.Needs.{needs}
-use Rattle.tables.proofs.Leaders.{leads}
-use Rattle.tables.proofs.leader.Statement.{statement}
-use Rattle.tables.proofs.leader.Tie as tie
+use Rattle.tables.proofs.Numbers.{leads}
+use Rattle.tables.proofs.first_use.Statement.{statement}
+use Rattle.tables.proofs.first_use.Tie as tie
 
 first-there-requires : tie.Need-first-there-requires
 first-there-requires c κs = search needs
@@ -30,8 +30,8 @@ first-with-requires c κs = search needs
 returns-2 : tie.Need-returns-2
 returns-2 c = search needs
 
-pub leader-spec : {M : Type 1} → statement M
-leader-spec =
+pub first-use-spec : {M : Type 1} → statement M
+first-use-spec =
     tie.close
     (tie.spec
     first-there-requires

@@ -1,18 +1,18 @@
--- `levels::index::by_name` meets its contract: the people passed are in the crowds of their classes. Assumes nothing.
-use mathlib.Core.Path.{sym, subst}
-use Prim.Native.Nat.{_≤_, _-_}
-use Rattle.levels.specs.Tabled.{ByName}
-use Rattle.levels.proofs.Crowds.{named-none, named-skip, named-take, named-all}
+-- `levels::nest::by_number` meets its contract: the people passed are in their classes. Assumes nothing.
+use mathlib.Core.Path.{refl, sym, subst}
+use Prim.Native.Nat.{_≤_, _-_, _%_}
+use Rattle.pattern.specs.Nesting.{ByNumber}
+use Rattle.levels.proofs.Nesting.{numbered-none, numbered-skip, numbered-take, numbered-all}
 use native.Mathlib.Omega.{arith}
 use borrow.Author.Needs.{needs}
-use Rattle.levels.proofs.index.by_name.Statement.{statement}
-use Rattle.levels.proofs.index.by_name.Tie as tie
+use Rattle.levels.proofs.nest.by_number.Statement.{statement}
+use Rattle.levels.proofs.nest.by_number.Tie as tie
 
 abbrev Inv-loop : tie.InvT-loop
-Inv-loop people levels class named₀ x₀ x-end named x = (x ≤ x-end) × ByName people levels class x named
+Inv-loop people levels class inside₀ x₀ x-end inside x = (x ≤ x-end) × ByNumber people levels class (λ b p. p) x inside
 
 abbrev μ-loop : tie.MeasureT-loop
-μ-loop people levels class named₀ x₀ x-end named x = x-end - x
+μ-loop people levels class inside₀ x₀ x-end inside x = x-end - x
 
 mul-x-end : tie.Need-mul-x-end Inv-loop μ-loop
 mul-x-end c = omega arith
@@ -20,8 +20,11 @@ mul-x-end c = omega arith
 loop-holds : tie.Need-loop-holds Inv-loop μ-loop
 loop-holds c =
     let a = c .args in
-    let q = c .pre in
-    (omega arith, subst (ByName (a .people) (a .levels) (a .class .now) 0) (sym (q .3)) (named-none (a .people) (a .levels) (q .0) (q .1) (a .class .now)))
+    let q = c .pre in (
+      omega arith,
+      subst (ByNumber (a .people) (a .levels) (a .class .now) (λ b p. p) 0) (sym (q .3))
+          (numbered-none (a .people) (a .levels) (q .0) (q .1) (a .class .now) (λ b p. p)),
+    )
 
 add-x : tie.Need-add-x Inv-loop μ-loop
 add-x c = omega arith
@@ -34,7 +37,7 @@ loop-again c =
     let a = c .before .before .before .args in
     let q = c .before .before .before .pre in
     let l = c .before .before .loop in
-    (omega arith, named-skip (a .people) (a .levels) (q .0) (q .1) (a .class .now) (l .x) (l .named) (l .inv .1) (c .before .loop-test .taken) (c .if1 .taken))
+    (omega arith, numbered-skip (a .people) (a .levels) (q .0) (q .1) (a .class .now) (λ b p. p) (l .x) (l .inside) (l .inv .1) (c .before .loop-test .taken) (c .if1 .taken))
 
 sub-v : tie.Need-sub-v Inv-loop μ-loop
 sub-v c = omega arith
@@ -57,11 +60,11 @@ element-copy-out-with c = omega (arith, c .before .before .before .loop .inv .1 
 with-requires : tie.Need-with-requires Inv-loop μ-loop
 with-requires c κs = search needs
 
-mul-named : tie.Need-mul-named Inv-loop μ-loop
-mul-named c = omega arith
+mul-inside : tie.Need-mul-inside Inv-loop μ-loop
+mul-inside c = omega arith
 
-element-write-named : tie.Need-element-write-named Inv-loop μ-loop
-element-write-named c = omega (arith, c .before .before .before .before .before .loop .inv .1 .sized)
+element-write-inside : tie.Need-element-write-inside Inv-loop μ-loop
+element-write-inside c = omega (arith, c .before .before .before .before .before .loop .inv .1 .sized)
 
 add-x-2 : tie.Need-add-x-2 Inv-loop μ-loop
 add-x-2 c = omega arith
@@ -76,18 +79,19 @@ loop-again-2 c =
     let l = t .before .loop in
     let s = t .before .before in (
       omega arith,
-      named-take (s .args .people) (s .args .levels) (s .pre .0) (s .pre .1) (s .args .class .now) (l .x) (l .named) (l .inv .1) (t .loop-test .taken)
-          (c .with .result) (e .if1 .left) (c .with .ensures),
+      numbered-take (s .args .people) (s .args .levels) (s .pre .0) (s .pre .1) (s .args .class .now) (λ b p. p) (l .x) (l .inside) (l .inv .1)
+          (t .loop-test .taken) (l .x % 64) (c .with .result) (e .if1 .left) refl (c .with .ensures),
     )
 
 returns : tie.Need-returns Inv-loop μ-loop
 returns c =
     let a = c .before .before .args in
+    let q = c .before .before .pre in
     let l = c .before .loop in
-    named-all (a .people) (a .levels) (a .class .now) (l .x) (l .named) (l .inv .0) (c .loop-test .left) (l .inv .1)
+    numbered-all (a .people) (a .levels) (q .0) (q .1) (a .class .now) (λ b p. p) (l .x) (l .inside) (l .inv .0) (c .loop-test .left) (l .inv .1)
 
-pub by-name-spec : {M : Type 1} → statement M
-by-name-spec =
+pub by-number-spec : {M : Type 1} → statement M
+by-number-spec =
     tie.close
     (tie.spec
     Inv-loop
@@ -104,8 +108,8 @@ by-name-spec =
     mul-with
     element-copy-out-with
     with-requires
-    mul-named
-    element-write-named
+    mul-inside
+    element-write-inside
     add-x-2
     loop-less-2
     loop-again-2
