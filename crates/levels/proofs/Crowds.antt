@@ -16,10 +16,10 @@ use Rattle.bits.proofs.SetLaws.{empty-lacks, added-has, added-other}
 use Rattle.pattern.specs.declared.Size.{Size}
 use Rattle.pattern.specs.Given.{Given, Numbers}
 use Rattle.pattern.specs.Tables.{classIn, numberIn}
-use Rattle.pattern.proofs.Classes.{numbered-forth, numbered-back, numbered-classed}
+use Rattle.pattern.proofs.Classes.{numbered-forth, numbered-back, numbered-classed, classed-table}
+use Rattle.pattern.proofs.Nesting.{number-is}
 use Rattle.pattern.specs.Nesting.{ByNumber}
 use Rattle.levels.specs.Tabled.{ByPerson, Gathered}
-use Rattle.levels.proofs.Nested.{entry}
 
 module _ (class numbered : List ℕ) where
   pub person-none : (crowd : List ℕ) → length crowd ≡ 192 → ByPerson class numbered 0 crowd
@@ -138,4 +138,4 @@ given-gathered {size} {class} {crowd} given its =
     at b p = let e : suc b - 1 ≡ b = omega arith in ap (λ (x : ℕ). x * 64 + p) e
 
     number : (b p : ℕ) → b < size .levels → p < size .people → numberIn class b p ≡ classIn class (suc b) p
-    number = entry (numbered-classed given its)
+    number = number-is (classed-table (numbered-classed given its))

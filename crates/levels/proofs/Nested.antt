@@ -3,9 +3,8 @@
 use mathlib.Core.Bool.{true}
 use mathlib.Core.List.{List}
 use mathlib.Core.Path.{_≡_, sym, subst, ap, _∙_}
-use Prim.Native.Nat.{ℕ, zero, suc, _+_, _*_, _-_, _%_, _≤_, _<_}
+use Prim.Native.Nat.{ℕ, zero, suc, _+_, _*_, _-_, _≤_, _<_}
 use native.Mathlib.Omega.{arith}
-use native.Mathlib.Nat.{mod-eq-of-lt}
 use lib.Dec.{ltb}
 use lib.ListN.{getD}
 use borrow.Author.Tests.{ltb-true, ltb-false}
@@ -14,38 +13,17 @@ use Rattle.bits.proofs.Below.{by-cases, first-unique}
 use Rattle.bits.proofs.Counting.{is-false}
 use Rattle.workflow.specs.Same.{SamePlans}
 use Rattle.pattern.specs.declared.Size.{Size}
-use Rattle.pattern.specs.Given.{Classed, Nest}
+use Rattle.pattern.specs.Given.{ClassTable, Classed, Nest}
 use Rattle.pattern.specs.Tables.{classIn, numberIn, jobIn, holderIn, nestedIn, nestedJob}
 use Rattle.pattern.proofs.Number.{number-few}
-use Rattle.pattern.proofs.Classes.{number-small, same-classes}
+use Rattle.pattern.proofs.Classes.{same-classes, classed-table}
 use Rattle.pattern.proofs.Nested.{nested-last, nested-up}
 use Rattle.pattern.specs.Nesting.{partIn, Nesting}
-use Rattle.levels.proofs.Nesting.{part-last, part-above}
-
--- the number of a class, as the table has it and as the job has it
-pub entry : {size : Size} {class rule : List ℕ} → Classed size class rule → (q p : ℕ) → q < size .levels → p < size .people
-    → numberIn class q p ≡ classIn class (suc q) p
-entry {size} {class} classed q p d l =
-    let e : suc q - 1 ≡ q = omega arith in
-    let f : classIn class (suc q) p ≡ getD class (q * 64 + p) 0 = ap (λ (x : ℕ). getD class (x * 64 + p) 0) e in
-    let s : classIn class (suc q) p < 64 = number-small classed (suc q) p (omega arith) d l in
-    mod-eq-of-lt (subst (λ (x : ℕ). x < 64) f s) ∙ sym f
+use Rattle.pattern.proofs.Nesting.{part-last, part-above, number-is, part-same}
 
 module _ {size : Size} {class nest rule : List ℕ} (classed : Classed size class rule) (w : Nesting (size .people) (size .levels) class nest) where
-  -- people who stand for the same are of one class
-  same-part : (q p p′ : ℕ) → q < size .levels → p < size .people → p′ < size .people
-      → partIn (size .levels) class q p ≡ partIn (size .levels) class q p′ → numberIn class q p ≡ numberIn class q p′
-  same-part q p p′ d l l′ e =
-      by-cases (ltb (suc q) (size .levels))
-      (λ t. let m : suc q < size .levels = ltb-true (suc q) (size .levels) t in
-      entry classed q p d l
-      ∙ classed .refining .finer (suc q) p p′ (omega arith) m l l′
-      (sym (entry classed (suc q) p m l)
-      ∙ sym (part-above (size .levels) class q p m) ∙ e ∙ part-above (size .levels) class q p′ m
-      ∙ entry classed (suc q) p′ m l′)
-      ∙ sym (entry classed q p′ d l′))
-      (λ t. let m : size .levels ≤ suc q = ltb-false (suc q) (size .levels) t in
-      ap (numberIn class q) (sym (part-last (size .levels) class q p m) ∙ e ∙ part-last (size .levels) class q p′ m))
+  table : ClassTable (size .people) (size .levels) class
+  table = classed-table classed
 
   -- what p stands for lies in the class of p alone
   held : (q p : ℕ) → q < size .levels → p < size .people → holderIn nest q (partIn (size .levels) class q p) ≡ numberIn class q p
@@ -54,7 +32,7 @@ module _ {size : Size} {class nest rule : List ℕ} (classed : Classed size clas
       (λ m. w .has q p d l (omega (arith, classed .few-people)))
       (λ k m. is-false _ (λ t.
       let o = w .only q k (partIn (size .levels) class q p) d (omega arith) t in
-      let e : numberIn class q (o .0) ≡ numberIn class q p = same-part q (o .0) p d (o .1) l (o .3) in
+      let e : numberIn class q (o .0) ≡ numberIn class q p = part-same table q (o .0) p d (o .1) l (o .3) in
       omega (arith, o .2)))
 
   -- so the class of the nested job is that of the table
@@ -87,7 +65,7 @@ module _ {size : Size} {class nest rule : List ℕ} (classed : Classed size clas
   nested-class q p a b l =
       let e : suc (q - 1) ≡ q = omega arith in
       subst (λ (x : ℕ). nestedIn nest (size .levels) x p ≡ classIn class x p) e
-      (nested-number (q - 1) p (omega arith) l ∙ entry classed (q - 1) p (omega arith) l)
+      (nested-number (q - 1) p (omega arith) l ∙ number-is table (q - 1) p (omega arith) l)
 
   pub nested-given : Nest size nest rule
   nested-given =
@@ -96,13 +74,13 @@ module _ {size : Size} {class nest rule : List ℕ} (classed : Classed size clas
         few-people = classed .few-people;
         sized = w .sized;
         small = λ q p d l.
-            omega (arith, nested-number q p d l, entry classed q p d l, classed .numbers (suc q) p (omega arith) d l, number-few (size .people) (classIn class (suc q)) p l);
+            omega (arith, nested-number q p d l, number-is table q p d l, classed .numbers (suc q) p (omega arith) d l, number-few (size .people) (classIn class (suc q)) p l);
         has = λ q p d l.
             subst (λ (x : ℕ). hasBit (getD nest (q * 64 + x) 0) (nestedIn nest (size .levels) (suc (suc q)) p) ≡ true) (sym (nested-number q p d l))
             (subst (λ (x : ℕ). hasBit (getD nest (q * 64 + numberIn class q p) 0) x ≡ true) (sym (nested-part q p d l)) (w .has q p d l (omega (arith, classed .few-people))));
         only = λ q v p d m l h.
             let o = w .only q v (partIn (size .levels) class q p) d m (subst (λ (x : ℕ). hasBit (getD nest (q * 64 + v) 0) x ≡ true) (nested-part q p d l) h) in
-            nested-number q p d l ∙ same-part q p (o .0) d l (o .1) (sym (o .3)) ∙ o .2;
+            nested-number q p d l ∙ part-same table q p (o .0) d l (o .1) (sym (o .3)) ∙ o .2;
         crew = λ q v p e m h.
             let o = w .only q v p (omega arith) m h in
             subst (λ (x : ℕ). x < size .people) (sym (part-last (size .levels) class q (o .0) (omega arith)) ∙ o .3) (o .1);

@@ -1,28 +1,22 @@
 -- What lies inside each class, gathered entry by entry. Assumes nothing.
-use mathlib.Core.Bool.{Bool, true, cond}
+use mathlib.Core.Bool.{true}
 use mathlib.Core.List.{List}
 use mathlib.Core.Path.{_≡_, sym, subst, ap, _∙_}
 use Prim.Native.Nat.{ℕ, suc, _+_, _*_, _-_, _/_, _%_, _≤_, _<_}
 use native.Mathlib.Omega.{arith}
 use native.Mathlib.Nat.{not-suc-le-zero}
-use lib.Dec.{eqb, leb}
+use lib.Dec.{eqb}
 use lib.ListN.{length, getD, set, replicate, length-set, length-replicate, getD-replicate}
 use lib.Seq.{getD-set-same, getD-set-other}
-use borrow.Author.Tests.{eqb-true, eqb-false, le-leb, lt-leb}
+use borrow.Author.Tests.{eqb-true, eqb-false}
 use Rattle.bits.specs.Word.{hasBit}
 use Rattle.bits.specs.Set.{Added}
 use Rattle.bits.proofs.Below.{by-cases, true-false}
 use Rattle.bits.proofs.SetLaws.{zero-empty, added-has, added-keeps, added-other}
 use Rattle.pattern.specs.Tables.{numberIn}
 use Rattle.pattern.specs.Nesting.{partIn, ByNumber}
+use Rattle.pattern.proofs.Nesting.{part-last, part-above}
 use Rattle.levels.specs.Tabled.{Gathered}
-
--- what p stands for at the last level, and above it
-pub part-last : (levels : ℕ) (class : List ℕ) (b p : ℕ) → levels ≤ suc b → partIn levels class b p ≡ p
-part-last levels class b p l = ap (λ (t : Bool). cond t p (numberIn class (suc b) p)) (le-leb levels (suc b) l)
-
-pub part-above : (levels : ℕ) (class : List ℕ) (b p : ℕ) → suc b < levels → partIn levels class b p ≡ numberIn class (suc b) p
-part-above levels class b p l = ap (λ (t : Bool). cond t p (numberIn class (suc b) p)) (lt-leb levels (suc b) l)
 
 -- where the class of entry x stands
 abbrev pub place : List ℕ → ℕ → ℕ

@@ -16,3 +16,4 @@ pub mod Packing
 pub mod Given
 pub mod Classes
 pub mod Nested
+pub mod Nesting

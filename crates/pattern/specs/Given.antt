@@ -48,6 +48,10 @@ pub record ClassTable (people levels : ℕ) (class : List ℕ) : Type 0 where
   pub finer : (q p p′ : ℕ) → 1 ≤ q → q < levels → p < people → p′ < people
       → classIn class (suc q) p ≡ classIn class (suc q) p′ → classIn class q p ≡ classIn class q p′
 
+-- at level q each person is a class, whose number is the person
+abbrev pub OwnClasses : ℕ → List ℕ → ℕ → Type 0
+OwnClasses people class q = (p : ℕ) → p < people → classIn class q p ≡ p
+
 -- a job, each class being known by its number
 pub record Classed (size : Size) (class rule : List ℕ) : Type 0 where
   pub ruled : Ruled size rule

@@ -1,15 +1,15 @@
 -- The classes with somebody for each step, found from what lies inside each class and level by level. Assumes nothing.
-use mathlib.Core.Bool.{Bool, true, cond}
+use mathlib.Core.Bool.{Bool, true}
 use mathlib.Core.List.{List}
 use mathlib.Core.Path.{_≡_, refl, sym, subst, ap, _∙_}
 use Prim.Native.Nat.{ℕ, suc, _+_, _*_, _/_, _%_, _≤_, _<_}
-use native.Mathlib.Nat.{not-suc-le-zero, mod-eq-of-lt}
+use native.Mathlib.Nat.{not-suc-le-zero}
 use native.Mathlib.Omega.{arith}
 use lib.Bits.{bitAnd}
-use lib.Dec.{eqb, ltb, leb}
+use lib.Dec.{eqb, ltb}
 use lib.ListN.{length, getD, set, length-set}
 use lib.Seq.{getD-set-same, getD-set-other}
-use borrow.Author.Tests.{eqb-true, eqb-false, ltb-true, ltb-false, lt-ltb, leb-false, le-leb, lt-leb}
+use borrow.Author.Tests.{eqb-true, eqb-false, ltb-true, ltb-false, lt-ltb}
 use Rattle.bits.specs.Word.{hasBit}
 use Rattle.bits.specs.Set.{Added, Mask}
 use Rattle.bits.proofs.Below.{by-cases, below-suc, true-false}
@@ -20,7 +20,8 @@ use Rattle.workflow.specs.Problem.{Job}
 use Rattle.pattern.specs.Given.{ClassTable}
 use Rattle.pattern.specs.Nesting.{partIn, Nesting}
 use Rattle.pattern.specs.Tables.{classIn, numberIn, mayIn}
-use Rattle.pattern.proofs.Number.{numbering, number-few}
+use Rattle.pattern.proofs.Nesting.{part-last, part-above, number-is, part-same}
+use Rattle.pattern.proofs.Number.{numbering}
 use Rattle.realize.specs.Parts.{Held, Holding, PartsOf, ReachedFrom, Rising, Reachable, Offers}
 use Rattle.realize.proofs.Masks.{level-at}
 
@@ -106,42 +107,20 @@ parts-able people may s all mask =
 pub parts-last : {people : ℕ} {test : ℕ → Bool} {m : ℕ} (levels : ℕ) (class : List ℕ) (q : ℕ) → levels ≤ q + 1 → PartsOf people test (λ p. p) m
     → PartsOf people test (partIn levels class q) m
 parts-last levels class q l w =
-    parts-cong (partIn levels class q) (λ p h. ap (λ (b : Bool). cond b p (numberIn class (suc q) p)) (sym (le-leb levels (suc q) (omega arith)))) w
+    parts-cong (partIn levels class q) (λ p h. sym (part-last levels class q p (omega arith))) w
 
 pub parts-inner : {people : ℕ} {test : ℕ → Bool} {m : ℕ} (levels : ℕ) (class : List ℕ) (q : ℕ) → q + 1 < levels
     → PartsOf people test (numberIn class (suc q)) m → PartsOf people test (partIn levels class q) m
 parts-inner levels class q l w =
-    parts-cong (partIn levels class q) (λ p h. ap (λ (b : Bool). cond b p (numberIn class (suc q) p)) (sym (lt-leb levels (suc q) (omega arith)))) w
+    parts-cong (partIn levels class q) (λ p h. sym (part-above levels class q p (omega arith))) w
 
 -- ---- a level from the one below it
 
 module _ {people levels : ℕ} {class : List ℕ} (table : ClassTable people levels class) where
-  number-is : (q p : ℕ) → q < levels → p < people → numberIn class q p ≡ classIn class (suc q) p
-  number-is q p d l =
-      let e : classIn class (suc q) p ≡ getD class (q * 64 + p) 0 = ap (λ (y : ℕ). getD class y 0) (level-at q 64 p) in
-      let s : getD class (q * 64 + p) 0 < 64
-      = omega (arith, table .few, table .numbers (suc q) p (omega arith) d l, number-few people (classIn class (suc q)) p l)
-      in
-      mod-eq-of-lt s ∙ sym e
-
   -- where each person is a class
   pub parts-own : {test : ℕ → Bool} {m : ℕ} (q : ℕ) → q < levels → ((p : ℕ) → p < people → classIn class (suc q) p ≡ p)
       → PartsOf people test (λ p. p) m → PartsOf people test (numberIn class q) m
-  parts-own q d own w = parts-cong (numberIn class q) (λ p l. sym (number-is q p d l ∙ own p l)) w
-
-  -- those who stand for the same share the class
-  part-same : (q p p′ : ℕ) → q < levels → p < people → p′ < people → partIn levels class q p ≡ partIn levels class q p′
-      → numberIn class q p ≡ numberIn class q p′
-  part-same q p p′ d l l′ e =
-      by-cases (leb levels (suc q))
-      (λ t. ap (numberIn class q) (subst (λ (b : Bool). cond b p (numberIn class (suc q) p) ≡ cond b p′ (numberIn class (suc q) p′)) t e))
-      (λ t. let n : suc q < levels = leb-false levels (suc q) t in
-      let f : numberIn class (suc q) p ≡ numberIn class (suc q) p′
-      = subst (λ (b : Bool). cond b p (numberIn class (suc q) p) ≡ cond b p′ (numberIn class (suc q) p′)) t e
-      in
-      number-is q p d l
-      ∙ table .finer (suc q) p p′ (omega arith) n l l′ (sym (number-is (suc q) p n l) ∙ f ∙ number-is (suc q) p′ n l′)
-      ∙ sym (number-is q p′ d l′))
+  parts-own q d own w = parts-cong (numberIn class q) (λ p l. sym (number-is table q p d l ∙ own p l)) w
 
   module _ {nest : List ℕ} (nesting : Nesting people levels class nest) (q : ℕ) (d : q < levels) where
     -- a class has something inside
@@ -156,9 +135,9 @@ module _ {people levels : ℕ} {class : List ℕ} (table : ClassTable people lev
         let n = numbering people (classIn class (suc q)) in
         let m : numberIn class q p < 64 = omega arith in
         let u : h .stop ≤ numberIn class q p = ltb-false (numberIn class q p) (h .stop) t in
-        let e = number-is q p d l ∙ table .numbers (suc q) p (omega arith) d l in
+        let e = number-is table q p d l ∙ table .numbers (suc q) p (omega arith) d l in
         let o = n .each (h .stop) (omega (arith, n .below p l)) in
-        let f : numberIn class q (o .0) ≡ h .stop = number-is q (o .0) d (o .1) ∙ table .numbers (suc q) (o .0) (omega arith) d (o .1) ∙ o .2 in
+        let f : numberIn class q (o .0) ≡ h .stop = number-is table q (o .0) d (o .1) ∙ table .numbers (suc q) (o .0) (omega arith) d (o .1) ∙ o .2 in
         true-false (inside (o .0) (o .1))
         (zero-empty (getD nest (q * 64 + numberIn class q (o .0)) 0)
         (subst (λ (y : ℕ). getD nest (q * 64 + y) 0 ≡ 0) (sym f) (h .empty (omega arith))) (partIn levels class q (o .0))))
@@ -173,7 +152,7 @@ module _ {people levels : ℕ} {class : List ℕ} (table : ClassTable people lev
               let a = h .held .only v k in
               let b = nesting .only q v (a .1) d (omega (arith, a .0, h .within)) (a .2) in
               let o = w .only (a .1) (a .3) in
-              (o .0, o .1, o .2, part-same q (o .0) (b .0) d (o .1) (b .1) (o .3 ∙ sym (b .3)) ∙ b .2);
+              (o .0, o .1, o .2, part-same table q (o .0) (b .0) d (o .1) (b .1) (o .3 ∙ sym (b .3)) ∙ b .2);
         }
 
 -- ---- the table

@@ -17,6 +17,7 @@ use Rattle.pattern.proofs.Place.{with-own, with-old, grown-joined, grown-placed
 use Rattle.realize.specs.Parts.{Offers}
 use Rattle.search.specs.Meet.{reachIn, Meets}
 use Rattle.search.specs.State.{partner, depth, Growable, Grew}
+use Rattle.search.proofs.Node.{grew-not}
 
 module _ (reach : List ℕ) (d s t : ℕ) where
   pub meets-nothing : Meets reach d s t true
@@ -45,24 +46,18 @@ module _ {j : Job} {label : List ℕ} {placed next s w : ℕ} (few : j .steps �
   pub grew-unmet : (r : Bool) → Meets reach (depth w) s (partner w) r → not r ≡ true
       → Grew j (mayIn may) placed next s w label label false
   grew-unmet r m f =
-      record {
-        sized = g .patterned .sized;
-        kept = λ q u a b h. refl;
-        patterned = λ e. true-false refl (sym e);
-        passed = λ e. true-false refl (sym e);
-        same = λ e. true-false refl (sym e);
-        lost = λ e joined x.
-            let n : 1 ≤ depth w = m .some (not-true r f) in
-            let i = joined .among n in
-            let l = g .patterned .inside (partner w) i in
-            let d : depth w ≤ j .levels = omega (arith, g .way) in
-            let same : j .class (depth w) (x .plan s) ≡ j .class (depth w) (x .plan (partner w)) =
-            x .has .alike (depth w) n (omega (arith, g .way)) .back s (partner w) (g .below) l (with-own (hasBit placed) s) (with-old (hasBit placed) s (partner w) i)
-            (grown-joined (labelIn label) s (partner w) (depth w) (depth w) (omega arith)
-            ∙ sym (grown-placed (j .steps) (j .levels) (hasBit placed) (labelIn label) (g .patterned .pattern) s (g .below) (g .unplaced) (partner w) (depth w) (depth w) (partner w) i))
-            in
-            m .apart (not-true r f) (j .class (depth w) (x .plan s))
-            (reach-own offers (depth w) s (x .plan s) n d (omega (arith, g .below)) (x .valid .within s (g .below)) (x .valid .authorised s (g .below)))
-            (subst (λ (c : ℕ). hasBit (reachIn reach (depth w) (partner w)) c ≡ true) (sym same)
-            (reach-own offers (depth w) (partner w) (x .plan (partner w)) n d (omega arith) (x .valid .within (partner w) l) (x .valid .authorised (partner w) l)));
-      }
+      grew-not g (mayIn may) few
+      (λ joined x.
+      let n : 1 ≤ depth w = m .some (not-true r f) in
+      let i = joined .among n in
+      let l = g .patterned .inside (partner w) i in
+      let d : depth w ≤ j .levels = omega (arith, g .way) in
+      let same : j .class (depth w) (x .plan s) ≡ j .class (depth w) (x .plan (partner w)) =
+      x .has .alike (depth w) n (omega (arith, g .way)) .back s (partner w) (g .below) l (with-own (hasBit placed) s) (with-old (hasBit placed) s (partner w) i)
+      (grown-joined (labelIn label) s (partner w) (depth w) (depth w) (omega arith)
+      ∙ sym (grown-placed (j .steps) (j .levels) (hasBit placed) (labelIn label) (g .patterned .pattern) s (g .below) (g .unplaced) (partner w) (depth w) (depth w) (partner w) i))
+      in
+      m .apart (not-true r f) (j .class (depth w) (x .plan s))
+      (reach-own offers (depth w) s (x .plan s) n d (omega (arith, g .below)) (x .valid .within s (g .below)) (x .valid .authorised s (g .below)))
+      (subst (λ (c : ℕ). hasBit (reachIn reach (depth w) (partner w)) c ≡ true) (sym same)
+      (reach-own offers (depth w) (partner w) (x .plan (partner w)) n d (omega arith) (x .valid .within (partner w) l) (x .valid .authorised (partner w) l))))

@@ -31,7 +31,7 @@ use Rattle.realize.specs.Parts.{ArraysSized, Offers, TablesFor}
 use Rattle.realize.specs.Decision.{Realizable}
 use Rattle.pattern.specs.Given.{Ruled, Nest}
 use Rattle.search.specs.Growth.{Placeable, Grows, Joins}
-use Rattle.search.specs.State.{Patterned, Passing, Touched, OthersPossible, LabelsKept, partner, depth, Growable, Grew}
+use Rattle.search.specs.State.{Patterned, Passing, Touched, OthersPossible, LabelsKept, partner, depth, ByWay, Growable, Grew}
 
 -- a job of these counts and rules, whatever its classes
 module _ {size : Size} {class : ℕ → ℕ → ℕ} {rule : List ℕ} (ruled : Ruled size rule) (may : List ℕ) (placed : ℕ) (label : List ℕ) where
@@ -142,17 +142,21 @@ module _ {j : Job} {placed next s w : ℕ} {label : List ℕ} (g : Growable j pl
   meetable reach most e = (omega (arith, g .way), omega (arith, g .below), omega arith, e)
 
 module _ {j : Job} {placed next s w : ℕ} {label : List ℕ} (g : Growable j placed next s w label) (may : May) (few : j .steps ≤ 12) where
-  -- there is no such group
-  pub grew-unjoined : (r : Bool) → Says r (Joins placed label (partner w) (depth w)) → not r ≡ true → Grew j may placed next s w label label false
-  grew-unjoined r says f =
+  -- no valid plan goes by the way, and nothing is placed
+  pub grew-not : (Joins placed label (partner w) (depth w) → ByWay j may placed label s w → ⊥) → Grew j may placed next s w label label false
+  grew-not lost =
       record {
         sized = g .patterned .sized;
         kept = λ q u a b h. refl;
         patterned = λ e. true-false refl (sym e);
         passed = λ e. true-false refl (sym e);
         same = λ e. true-false refl (sym e);
-        lost = λ e x y. says-false r (Joins placed label (partner w) (depth w)) says (not-true r f) x;
+        lost = λ e. lost;
       }
+
+  -- there is no such group
+  pub grew-unjoined : (r : Bool) → Says r (Joins placed label (partner w) (depth w)) → not r ≡ true → Grew j may placed next s w label label false
+  grew-unjoined r says f = grew-not (λ x y. says-false r (Joins placed label (partner w) (depth w)) says (not-true r f) x)
 
   module _ (joined : Joins placed label (partner w) (depth w)) where
     pub placeable : j .levels ≤ 3 → Placeable (j .levels) s (partner w) label

@@ -1,12 +1,10 @@
 -- `levels::index::crowds` meets its contract. The invariant: at the last level the people passed have themselves. Assumes nothing.
-use mathlib.Core.Path.{_≡_, sym, ap, _∙_}
-use Prim.Native.Nat.{ℕ, suc, _+_, _*_, _-_, _%_, _≤_, _<_}
-use native.Mathlib.Nat.{mod-eq-of-lt}
+use mathlib.Core.Path.{_≡_, _∙_}
+use Prim.Native.Nat.{suc, _+_, _*_, _-_, _≤_, _<_}
 use native.Mathlib.Omega.{arith}
-use lib.ListN.{getD}
 use borrow.Author.Tests.{not-false}
-use Rattle.pattern.specs.Given.{ClassTable}
-use Rattle.pattern.specs.Tables.{classIn, numberIn}
+use Rattle.bits.proofs.Says.{says-true}
+use Rattle.pattern.proofs.Nesting.{number-is}
 use Rattle.levels.proofs.Crowds.{Completing, completing-none, completing-more, completed}
 use Rattle.levels.proofs.index.crowds.Statement.{statement}
 use Rattle.levels.proofs.index.crowds.Tie as tie
@@ -87,14 +85,8 @@ returns-3 c =
     let a = s .args in
     let n : suc (a .levels - 1) ≡ a .levels = omega (arith, e .before .before .if1 .left) in
     let m : a .levels - 1 < a .levels = omega arith in
-    let x : suc (a .levels - 1) - 1 ≡ a .levels - 1 = omega arith in
-    let own = e .before .alone .ensures (not-false _ (e .if2 .left)) (a .levels) (s .pre .1) m in
-    completed (s .pre .1 .few) (l .p) (a .levels) (c .loop-test .left) n
-    (λ p h.
-    let f : getD (a .class .now) ((a .levels - 1) * 64 + p) 0 ≡ p = ap (λ (y : ℕ). getD (a .class .now) (y * 64 + p) 0) (sym x) ∙ own p h in
-    let k : p < 64 = omega (arith, s .pre .1 .few) in
-    ap (λ (y : ℕ). y % 64) f ∙ mod-eq-of-lt k)
-    (l .inv .1)
+    let own = says-true (e .before .alone .result) _ (e .before .alone .ensures (a .levels) (s .pre .1) m) (not-false _ (e .if2 .left)) in
+    completed (s .pre .1 .few) (l .p) (a .levels) (c .loop-test .left) n (λ p h. number-is (s .pre .1) (a .levels - 1) p m h ∙ own p h) (l .inv .1)
 
 pub crowds-spec : {M : Type 1} → statement M
 crowds-spec =

@@ -5,6 +5,7 @@ use native.Mathlib.Omega.{arith}
 use borrow.Author.Needs.{needs}
 use lib.Bits.{bitAnd}
 use lib.ListN.{getD, set}
+use Rattle.bits.proofs.Says.{says-true}
 use Rattle.pattern.specs.Tables.{numberIn, mayIn}
 use Rattle.realize.specs.Parts.{PartsOf, Rising}
 use Rattle.realize.proofs.Reach.{parts-able, parts-own, parts-last, parts-inner, parts-up}
@@ -82,7 +83,8 @@ loop-again : tie.Need-loop-again Inv-loop μ-loop
 loop-again c =
     let i = c .before in
     let b = begun i in
-    let own = i .before .before .before .alone .ensures (c .if1 .taken) (b .args .levels) (b .pre .1) (b .pre .4) in
+    let t = i .before .before .before .alone in
+    let own = says-true (t .result) _ (t .ensures (b .args .levels) (b .pre .1) (b .pre .4)) (c .if1 .taken) in
     (omega arith, next i _ (parts-own (b .pre .1) (b .args .q) (b .pre .4) own (able i)))
 
 add-if2 : tie.Need-add-if2 Inv-loop μ-loop
