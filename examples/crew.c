@@ -16,7 +16,7 @@ static int refused(uint32_t number) {
     return 1;
 }
 
-/* Step j has its own tag, then that of the person who does it. */
+/* Step j has its own tag, then that of the person who does it. No step of W is skipped: those that remain are all. */
 static const uint8_t *step_of(const uint8_t *crew, int j) {
     return crew + FULMARINVAR_STEP_BYTES * j;
 }

@@ -14,7 +14,9 @@
 extern "C" {
 #endif
 
-/* A sheet is a row of cards; card i starts at byte 16 * i. */
+/* A sheet is a row of cards; card i starts at byte 16 * i. Byte 1 of a step card is 0, or 1 where the step is skipped:
+ * it is one of the steps of the sheet, and permissions and scopes may name it, but nobody does it and no rule counts
+ * it. The other steps are those that remain. */
 #define FULMARINVAR_CARD_BYTES 16
 #define FULMARINVAR_MOST_CARDS 141
 #define FULMARINVAR_MOST_SHEET_BYTES 2256
@@ -22,7 +24,7 @@ extern "C" {
 #define FULMARINVAR_MOST_STEPS 12
 #define FULMARINVAR_MOST_RULES 64
 
-/* A crew takes 8 bytes a step, 96 at most; a spare count takes 16. */
+/* A crew takes 8 bytes a step that remains, 96 at most; a spare count takes 16. */
 #define FULMARINVAR_STEP_BYTES 8
 #define FULMARINVAR_MOST_CREW_BYTES 96
 #define FULMARINVAR_SPARE_BYTES 16
@@ -41,7 +43,7 @@ enum fulmarinvar_refusal {
     FULMARINVAR_DONE = 0,
 
     /* Caused by the calling program. */
-    FULMARINVAR_SHORT_ANSWER = 1, /* answer area below 8 * steps (crew) or 16 bytes (spare); card 0 */
+    FULMARINVAR_SHORT_ANSWER = 1, /* answer area below 8 * steps that remain (crew) or 16 bytes (spare); card 0 */
     FULMARINVAR_CAP_TOO_HIGH = 2, /* cap above 3; card 0 */
 
     /* Caused by whoever wrote the sheet. */
@@ -63,7 +65,8 @@ enum fulmarinvar_refusal {
     FULMARINVAR_NO_PLAN = 13, /* no valid plan with everyone present; card 0 */
 
     /* Caused by whoever signs. */
-    FULMARINVAR_UNKNOWN = 14,     /* a step or a person that is not on the sheet, or a job never opened; card 0 */
+    FULMARINVAR_UNKNOWN = 14,     /* a step or a person that is not on the sheet, a skipped step, or a job never
+                                     opened; card 0 */
     FULMARINVAR_STEP_SIGNED = 15, /* a step that is signed already, by whomever; card 0 */
     FULMARINVAR_NOT_GRANTED = 16  /* no valid plan agrees with this signing and all granted before; card 0 */
 };
@@ -73,16 +76,16 @@ enum fulmarinvar_refusal {
  * job holds is copied out before it is lent with that job. The sheet is never written to; a refusal leaves every byte of
  * the answer area as it was. */
 
-/* The first valid plan. On 0, for step j of the step chain, counted from 0:
+/* The first valid plan. On 0, for the j-th step that remains, along the step chain, counted from 0:
  *   bytes 8 * j to 8 * j + 3       the step's tag, low byte first
  *   bytes 8 * j + 4 to 8 * j + 7   the tag of the person who does it, low byte first
- * Bytes from 8 * steps on keep their values. Never refuses with 2. */
+ * Later bytes keep their values; with all steps skipped the crew is empty, and all do. Never refuses with 2. */
 uint32_t fulmarinvar_crew(const uint8_t *sheet, size_t sheet_len, uint8_t *answer, size_t answer_len);
 
 /* The same by trying every plan, one after the other: the number and the bytes are those of fulmarinvar_crew on every
  * sheet and every answer area. For small sheets: its time grows as the number of people to the power of the number of
- * steps. On a large sheet it does not end in any useful time: 64 people and 12 steps have 2^72 plans. A host that does
- * not know how large its sheet is tests that first, or calls fulmarinvar_crew. */
+ * steps that remain. On a large sheet it does not end in any useful time: 64 people and 12 steps have 2^72 plans. A
+ * host that does not know how large its sheet is tests that first, or calls fulmarinvar_crew. */
 uint32_t fulmarinvar_crew_by_trial(const uint8_t *sheet, size_t sheet_len, uint8_t *answer, size_t answer_len);
 
 /* The spare count: the largest t, at most `cap`, such that a valid plan is left whichever t people or fewer stay away.
@@ -91,13 +94,13 @@ uint32_t fulmarinvar_crew_by_trial(const uint8_t *sheet, size_t sheet_len, uint8
  *   bytes 1 to 3     zero
  *   bytes 4 to 15    three tags of 4 bytes, low byte first: the first t + 1 people, in crew order, without whom no
  *                    valid plan is left, then zero; all zero when t equals the cap
- * Bytes from 16 on keep their values. */
+ * Bytes from 16 on keep their values. With all steps skipped t is the cap, however few people there are. */
 uint32_t fulmarinvar_spare(const uint8_t *sheet, size_t sheet_len, uint8_t *answer, size_t answer_len, uint32_t cap);
 
 /* A job under work: 2,276 bytes without padding or pointers, which the caller may copy, move and store, for this
- * edition of the library and this byte order. All zero: never opened. What is said of a job holds where it was all
- * zero, or a call has opened it, and its calls alone have changed it since; on any other memory a call ends too, and
- * writes inside the struct only. */
+ * edition of the library and this byte order. All zero: never opened. Entry j of `signer` is that of the j-th step that
+ * remains, counted from 0; zeros follow. What is said of a job holds where it was all zero, or a call has opened it,
+ * and its calls alone have changed it since; on any other memory a call ends too, and writes inside the struct only. */
 struct fulmarinvar_job {
     uint32_t refusals;                           /* refused signings since the last opening that returned 0 */
     uint32_t sheet_len;                          /* how many bytes the sheet held has */
@@ -111,11 +114,11 @@ struct fulmarinvar_job {
  * call. */
 uint32_t fulmarinvar_open(struct fulmarinvar_job *job, const uint8_t *sheet, size_t sheet_len);
 
-/* Signs a step by a person, both named by their tags. Returns 0 exactly when both are on the sheet, the step is open
- * and some valid plan gives this step to this person and every signed step to its signer; then the step is signed. So
- * as long as a step is open somebody would be granted it, and with no step open the signers are a valid plan. Refuses
- * with 14, 15 and 16: the count is then one higher, unless it has reached 1,000,000, and no other byte of the job
- * differs. */
+/* Signs a step by a person, both named by their tags. Returns 0 exactly when both are on the sheet, the step remains
+ * and is open, and some valid plan gives this step to this person and every signed step to its signer; then the step is
+ * signed. So as long as a step is open somebody would be granted it, and with no step open the signers are a valid
+ * plan. Refuses with 14, a skipped step too, 15 and 16: the count is then one higher, unless it has reached 1,000,000,
+ * and no other byte of the job differs. */
 uint32_t fulmarinvar_sign(struct fulmarinvar_job *job, uint32_t step, uint32_t person);
 
 /* How many signings were refused since the last opening that returned 0, or since the start in a job never opened;

@@ -211,6 +211,51 @@ def sign(record):
     return table([*heading, "whole job median", "worst"], lines)
 
 
+def ended(ours, theirs):
+    """The pairs of which neither was late."""
+    return [(one, other) for one, other in zip(ours, theirs) if not math.isinf(one + other)]
+
+
+def beyond(rows, call):
+    """What is left of the calls beyond their reading; late where one of the two was."""
+    whole, reading = column(rows, f"{call}_ns"), column(rows, f"{call}_reading_ns")
+    return [math.inf if math.isinf(one + other) else one - other for one, other in zip(whole, reading)]
+
+
+def left(pairs):
+    """The ratios of differences, that of their sums, and how many are not positive. Such a one is less than the clock can tell:
+    in the ratio of its sheet it is taken for a nanosecond, in the sums it keeps its sign."""
+    least = 0.001
+    sums = [sum(side) for side in zip(*pairs)]
+    of_sums = digits(sums[0] / sums[1]) if sums and sums[1] > 0 else "-"
+    unclear = sum(value <= 0 for pair in pairs for value in pair)
+    return [*ratios([(max(one, least), max(other, least)) for one, other in pairs]), of_sums, str(unclear)]
+
+
+def skipped(record):
+    """Both calls on sheets with skipped steps, beside those on the same sheets without these steps: whole, their reading, and
+    what is left beyond that."""
+    heading = ["rules", "sheets", "with a plan", "rules left: median"]
+    for call in ("crew", "spare (cap 3)"):
+        heading += [f"{call}: median", "worst", "without: median", "worst", "ratio: median", "p90", "worst"]
+        heading += [f"{call}, reading: median", "without: median"]
+        heading += ["ratio beyond reading: median", "p90", "worst", "of sums", "unclear"]
+    *numbered, every = by_rules(record)
+    lines = []
+    for name, rows in [*numbered, every, *by_plan(*every), any_size(record)]:
+        if not rows:
+            continue
+        line = [name, str(len(rows)), str(len(with_plan(rows))), count(median(numbers(rows, "rules_left")))]
+        for call in ("crew", "spare"):
+            marked, short = column(rows, f"{call}_ns"), column(rows, f"short_{call}_ns")
+            line += [time(value) for value in (median(marked), max(marked), median(short), max(short))]
+            line += ratios(ended(marked, short))
+            line += [time(median(column(rows, f"{of}_reading_ns"))) for of in (call, f"short_{call}")]
+            line += left(ended(beyond(rows, call), beyond(rows, f"short_{call}")))
+        lines.append(line)
+    return table(heading, lines)
+
+
 def trial(record):
     """The crew by trial for each number of steps: plans tried, times, ratios to the crew call and to the brute force by hand."""
     heading = ["steps", "plans", "plan", "sheets", "tried: median", "most", "by trial median", "worst", "crew median"]

@@ -103,9 +103,9 @@ mod tests {
         for _ in 0..5_000 {
             let job = small_job(&mut random);
             let problem = Problem::new(&job);
-            let steps = job.steps.len();
+            let steps = problem.steps;
             let first = match plan(&problem, 0, Order::Chain, until) {
-                Found::Some(plan) => Some(plan[..steps].to_vec()),
+                Found::Some(plan) => Some(plans::plan_by(&job, plan[..steps].iter().copied())),
                 _ => None,
             };
             assert_eq!(first, plans::first_plan(&job, &[]));

@@ -2,6 +2,7 @@
 
 mod absences;
 mod accidents;
+mod asked;
 mod baseline;
 mod beside;
 mod builds;
@@ -18,8 +19,10 @@ mod problem;
 mod randoms;
 mod record;
 mod sign;
+mod skipped;
 mod table;
 mod trial;
+mod turns;
 mod worker;
 
 use std::env;
@@ -52,6 +55,7 @@ fn run(mut args: Vec<String>) -> io::Result<End> {
         "climb" => climb::order(args).map_or(Ok(End::Misused), |order| climb::run(&order).map(|()| End::Done)),
         "peers" => peers::order(args).map_or(Ok(End::Misused), |order| peers::run(&order).map(differences)),
         "sign" => sign::order(args).map_or(Ok(End::Misused), |order| sign::run(&order).map(differences)),
+        "skipped" => skipped::order(args).map_or(Ok(End::Misused), |order| skipped::run(&order).map(differences)),
         "trial" => trial::order(args).map_or(Ok(End::Misused), |order| trial::run(&order).map(differences)),
         worker::COMMAND => worker::serve().map(|()| End::Done),
         _ => Ok(End::Misused),
@@ -66,7 +70,8 @@ fn main() -> ExitCode {
             ExitCode::FAILURE
         }
         Ok(End::Misused) => {
-            let usages = [compare::USAGE, peers::USAGE, beside::USAGE, sign::USAGE, trial::USAGE, climb::USAGE];
+            let usages =
+                [compare::USAGE, peers::USAGE, beside::USAGE, sign::USAGE, skipped::USAGE, trial::USAGE, climb::USAGE];
             eprintln!("usage: {}", usages.join("\n\n"));
             ExitCode::from(2)
         }

@@ -1,6 +1,7 @@
 //! One sheet through the library and through the hand-written search.
 
 use crate::absences::spare;
+use crate::asked::Asked;
 use crate::baseline::{plan, Found, Order, Plan};
 use crate::builds::Which;
 use crate::clock::{timed, Nanos};
@@ -9,7 +10,7 @@ use crate::worker::Worker;
 use model::answers::{crew_bytes, room, spare_bytes, Call, MOST_CAP, STEP_BYTES};
 use model::builder::lay;
 use model::job::Job;
-use model::plans::is_valid;
+use model::plans::{crew, is_valid, plan_by};
 use model::refusal::is_no_plan;
 use std::io;
 use std::time::{Duration, Instant};
@@ -50,23 +51,23 @@ fn searched<T: Copy>(limit: Duration, run: impl Fn(Instant) -> Found<T>) -> (Fou
 pub type Answer = Option<(u32, Vec<u8>)>;
 
 pub fn called(worker: &mut Worker, call: Call, job: &Job, limit: Duration) -> io::Result<(Answer, Nanos)> {
-    let Some(called) = worker.call(Which::This, call, &lay(job).bytes, limit)? else {
+    let Some(called) = worker.call(Which::This, Asked::whole(call), &lay(job).bytes, limit)? else {
         return Ok((None, None));
     };
     let written = if called.number == 0 { called.area[..room(call, job)].to_vec() } else { vec![] };
     Ok((Some((called.number, written)), Some(called.nanos)))
 }
 
-/// The people of a crew that was written, by their places in crew order.
+/// The people of a crew that was written, by their places in crew order: one for each step that remains.
 pub fn people_of(job: &Job, crew: &[u8]) -> Option<Vec<usize>> {
     let tag = |pair: &[u8]| u32::from_le_bytes([pair[4], pair[5], pair[6], pair[7]]);
     let person = |pair| job.people.iter().position(|person| person.tag == tag(pair));
     crew.chunks(STEP_BYTES).map(person).collect()
 }
 
+/// The bytes of a plan by hand.
 pub fn crew_of(job: &Job, plan: &Plan) -> Vec<u8> {
-    let pairs: Vec<_> = job.steps.iter().zip(plan).map(|(step, &person)| (step.tag, job.people[person].tag)).collect();
-    crew_bytes(&pairs)
+    crew_bytes(&crew(job, &plan_by(job, *plan)))
 }
 
 fn spare_of(job: &Job, (count, away): (usize, u64)) -> Vec<u8> {
@@ -92,7 +93,7 @@ fn is_sound(answer: &Answer, job: &Job) -> bool {
     let Some((0, crew)) = answer else {
         return true;
     };
-    people_of(job, crew).is_some_and(|plan| is_valid(job, &plan))
+    people_of(job, crew).is_some_and(|people| is_valid(job, &plan_by(job, people)))
 }
 
 fn has_plan(answer: &Answer, found: Found<Plan>) -> Option<bool> {
@@ -115,7 +116,7 @@ pub fn measure(worker: &mut Worker, job: &Job, limits: Limits) -> io::Result<Mea
 
     // A wrong plan by hand would make every comparison worthless.
     for found in [found_first, found_any] {
-        assert!(!matches!(found, Found::Some(plan) if !is_valid(job, &plan[..job.steps.len()])), "{job:?}");
+        assert!(!matches!(found, Found::Some(plan) if !is_valid(job, &plan_by(job, plan))), "{job:?}");
     }
 
     let mut differences = vec![];

@@ -1,8 +1,7 @@
-//! The job as the hand-written search holds it: people as bits of a word, and rules as pairs or as counts.
+//! The job as the hand-written search holds it: people as bits of a word, and rules as pairs or as counts. Its steps are those
+//! that remain.
 
-use model::job::{
-    steps_of, Job, Person, Rule, AT_MOST, BY_BENCH, BY_PERSON, BY_SHOP, DIFFERENT, MOST_PEOPLE, MOST_STEPS, SAME,
-};
+use model::job::{Job, Person, Rule, AT_MOST, BY_BENCH, BY_PERSON, BY_SHOP, DIFFERENT, MOST_PEOPLE, MOST_STEPS, SAME};
 
 const LEVELS: usize = BY_PERSON as usize;
 
@@ -39,12 +38,14 @@ fn place(level: u8) -> usize {
     usize::from(level) - 1
 }
 
+/// Of a rule left with so many steps, two or more.
 fn bounds(rule: &Rule, size: usize) -> (usize, usize) {
+    let limit = size.min(rule.limit.into());
     match rule.kind {
         SAME => (1, 1),
         DIFFERENT => (2, 2),
-        AT_MOST => (1, rule.limit.into()),
-        _ => (rule.limit.into(), size),
+        AT_MOST => (1, limit),
+        _ => (limit, size),
     }
 }
 
@@ -65,8 +66,9 @@ fn classes(job: &Job, number: fn(&Person) -> u16) -> [u64; MOST_PEOPLE] {
 
 impl Problem {
     pub fn new(job: &Job) -> Problem {
+        let remaining: Vec<usize> = job.remaining().collect();
         let mut problem = Problem {
-            steps: job.steps.len(),
+            steps: remaining.len(),
             people: job.people.len(),
             may: [0; MOST_STEPS],
             class: [[0; MOST_PEOPLE]; LEVELS],
@@ -74,25 +76,26 @@ impl Problem {
             counts: vec![],
         };
         for (p, person) in job.people.iter().enumerate() {
-            for step in 0..problem.steps {
-                problem.may[step] |= u64::from(person.permitted >> step & 1) << p;
+            for (may, step) in problem.may.iter_mut().zip(&remaining) {
+                *may |= u64::from(person.permitted >> step & 1) << p;
             }
             problem.class[place(BY_PERSON)][p] = 1 << p;
         }
         problem.class[place(BY_SHOP)] = classes(job, |person| person.shop);
         problem.class[place(BY_BENCH)] = classes(job, |person| person.bench);
         for rule in &job.rules {
-            problem.add(rule);
+            let scope = (0..remaining.len()).filter(|&step| rule.scope >> remaining[step] & 1 == 1);
+            problem.add(rule, scope.collect());
         }
         problem
     }
 
     /// A rule over two steps is a pair whatever its kind; one that every plan meets is left out.
-    fn add(&mut self, rule: &Rule) {
+    fn add(&mut self, rule: &Rule, scope: Vec<usize>) {
         let level = place(rule.level);
-        let scope: Vec<usize> = steps_of(rule.scope).collect();
         let size = scope.len();
         match (bounds(rule, size), size) {
+            (_, ..2) => {}
             ((1, high), _) if high == size => {}
             ((low, _), 2) => self.pairs.push(Pair { level, same: low == 1, steps: [scope[0], scope[1]] }),
             ((low, high), _) => self.counts.push(Count { level, scope, low, high }),

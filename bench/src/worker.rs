@@ -1,6 +1,7 @@
 //! Calls of the library in a child process, so that an endless call can be ended. The clock runs inside the child, around
 //! the call alone: what goes through the pipes is not in the times.
 
+use crate::asked::Asked;
 use crate::builds::{linked, Which};
 use crate::clock::timed;
 use model::answers::{Call, MOST_CREW_BYTES};
@@ -30,21 +31,21 @@ pub struct Called {
     pub nanos: u64,
 }
 
-/// What a call is sent as: the bytes of the build and of the call, its cap, the length of the sheet, the sheet.
-fn question(which: Which, call: Call, sheet: &[u8]) -> Vec<u8> {
+/// What a call is sent as: the bytes of the build and of the call, its cap, its room, the length of the sheet, the sheet.
+fn question(which: Which, asked: Asked, sheet: &[u8]) -> Vec<u8> {
     let build = if which == Which::This { THIS } else { OTHER };
-    let (byte, cap) = match call {
+    let (byte, cap) = match asked.call {
         Call::Crew => (CREW, 0),
         Call::CrewByTrial => (CREW_BY_TRIAL, 0),
         Call::Spare { cap } => (SPARE, cap),
     };
-    [&[build, byte, cap as u8], &(sheet.len() as u16).to_le_bytes()[..], sheet].concat()
+    [&[build, byte, cap as u8, asked.room as u8], &(sheet.len() as u16).to_le_bytes()[..], sheet].concat()
 }
 
-fn read_question(input: &mut impl Read) -> io::Result<(Which, Call, Vec<u8>)> {
-    let mut head = [0; 5];
+fn read_question(input: &mut impl Read) -> io::Result<(Which, Asked, Vec<u8>)> {
+    let mut head = [0; 6];
     input.read_exact(&mut head)?;
-    let [build, byte, cap, low, high] = head;
+    let [build, byte, cap, room, low, high] = head;
     let mut sheet = vec![0; usize::from(u16::from_le_bytes([low, high])).min(MOST_BYTES)];
     input.read_exact(&mut sheet)?;
     let which = if build == THIS { Which::This } else { Which::Other };
@@ -53,7 +54,7 @@ fn read_question(input: &mut impl Read) -> io::Result<(Which, Call, Vec<u8>)> {
         CREW_BY_TRIAL => Call::CrewByTrial,
         _ => Call::Spare { cap: cap.into() },
     };
-    Ok((which, call, sheet))
+    Ok((which, Asked { call, room: usize::from(room).min(MOST_CREW_BYTES) }, sheet))
 }
 
 /// What it is answered by: the returned number, the nanoseconds, the area.
@@ -82,10 +83,10 @@ pub fn serve() -> io::Result<()> {
     // Takes a number and nothing that is lent.
     unsafe { prctl(PR_SET_PDEATHSIG, SIGKILL) };
     let (mut input, mut output) = (io::stdin().lock(), io::stdout().lock());
-    while let Ok((which, call, sheet)) = read_question(&mut input) {
+    while let Ok((which, Asked { call, room }, sheet)) = read_question(&mut input) {
         let build = linked(which).ok_or_else(|| io::Error::other("there is no second build"))?;
         let mut area = [0; MOST_CREW_BYTES];
-        let (number, time) = timed(|| build.run(call, &sheet, &mut area));
+        let (number, time) = timed(|| build.run(call, &sheet, &mut area[..room]));
         output.write_all(&answer(&Called { number, area, nanos: time.as_nanos() as u64 }))?;
         output.flush()?;
     }
@@ -135,12 +136,12 @@ impl Worker {
     }
 
     /// Nothing where the call takes longer than the limit. A child that ends by itself is an error: the library failed.
-    pub fn call(&mut self, which: Which, call: Call, sheet: &[u8], limit: Duration) -> io::Result<Option<Called>> {
+    pub fn call(&mut self, which: Which, asked: Asked, sheet: &[u8], limit: Duration) -> io::Result<Option<Called>> {
         let running = match &mut self.running {
             Some(running) => running,
             none => none.insert(Running::start()?),
         };
-        running.questions.write_all(&question(which, call, sheet))?;
+        running.questions.write_all(&question(which, asked, sheet))?;
         running.questions.flush()?;
         if let Ok(called) = running.answers.recv_timeout(limit) {
             return Ok(Some(called));
@@ -163,9 +164,11 @@ mod tests {
     fn a_question_is_read_as_it_was_sent() {
         for which in [Which::This, Which::Other] {
             for call in [Call::Crew, Call::CrewByTrial, Call::Spare { cap: 0 }, Call::Spare { cap: 3 }] {
-                let sheet = sheet_w().bytes;
-                let sent = question(which, call, &sheet);
-                assert_eq!(read_question(&mut &sent[..]).unwrap(), (which, call, sheet));
+                for asked in [Asked::whole(call), Asked::reading(call)] {
+                    let sheet = sheet_w().bytes;
+                    let sent = question(which, asked, &sheet);
+                    assert_eq!(read_question(&mut &sent[..]).unwrap(), (which, asked, sheet));
+                }
             }
         }
     }

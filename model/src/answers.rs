@@ -1,7 +1,7 @@
 //! What each call has to return and to leave in the answer area, for any sheet, area and cap.
 
 use crate::job::{Job, MOST_STEPS};
-use crate::plans::{first_plan, is_small, spare};
+use crate::plans::{crew, first_plan, is_small, spare};
 use crate::reader::read;
 use crate::refusal::{refuse, Refusal, CAP_TOO_HIGH, NO_PLAN, SHORT_ANSWER};
 
@@ -38,7 +38,7 @@ pub struct Answer {
     pub area: Vec<u8>,
 }
 
-/// The bytes of a crew: step tag, then person tag, for each step.
+/// The bytes of a crew: step tag, then person tag, for each step that remains.
 pub fn crew_bytes(pairs: &[(u32, u32)]) -> Vec<u8> {
     pairs.iter().flat_map(|(step, person)| [step.to_le_bytes(), person.to_le_bytes()].concat()).collect()
 }
@@ -54,7 +54,7 @@ pub fn spare_bytes(count: usize, away: &[u32]) -> Vec<u8> {
 /// How many bytes the call writes for the job.
 pub fn room(call: Call, job: &Job) -> usize {
     match call {
-        Call::Crew | Call::CrewByTrial => STEP_BYTES * job.steps.len(),
+        Call::Crew | Call::CrewByTrial => STEP_BYTES * job.remaining().count(),
         Call::Spare { .. } => SPARE_BYTES,
     }
 }
@@ -73,20 +73,18 @@ pub fn job(call: Call, sheet: &[u8], area: usize) -> Result<Job, Refusal> {
 
 /// The bytes that the call writes for a job, or 13.
 fn planned(call: Call, job: &Job) -> Result<Vec<u8>, Refusal> {
-    let tag = |person: &usize| job.people[*person].tag;
     match call {
         Call::Crew | Call::CrewByTrial => {
             let Some(plan) = first_plan(job, &[]) else {
                 return refuse(NO_PLAN, 0);
             };
-            let pairs: Vec<_> = job.steps.iter().zip(&plan).map(|(step, person)| (step.tag, tag(person))).collect();
-            Ok(crew_bytes(&pairs))
+            Ok(crew_bytes(&crew(job, &plan)))
         }
         Call::Spare { cap } => {
             let Some(found) = spare(job, cap as usize) else {
                 return refuse(NO_PLAN, 0);
             };
-            let away: Vec<u32> = found.away.iter().map(tag).collect();
+            let away: Vec<u32> = found.away.iter().map(|&person| job.people[person].tag).collect();
             Ok(spare_bytes(found.count, &away))
         }
     }
@@ -117,7 +115,7 @@ pub fn answer(call: Call, sheet: &[u8], area: &[u8]) -> Option<Answer> {
 #[cfg(test)]
 mod tests {
     use super::*;
-    use crate::builder::{plain, sheet_w};
+    use crate::builder::{job_w, lay, plain, sheet_w, skipping};
 
     fn numbers(call: Call, sheet: &[u8], area: &[u8]) -> u32 {
         answer(call, sheet, area).expect("a small job").number
@@ -142,6 +140,26 @@ mod tests {
         let idle = plain(2, 2, 0).word(1, 12, 0).word(2, 12, 0).bytes;
         assert_eq!(numbers(Call::Crew, &idle, &[0; 15]), 256);
         assert_eq!(numbers(Call::Crew, &idle, &[0; 16]), 13 * 256);
+    }
+
+    #[test]
+    fn crew_bytes_and_area_cover_the_steps_that_remain() {
+        let sheet = lay(&skipping(job_w(), [1])).bytes;
+        assert_eq!(numbers(Call::Crew, &sheet, &[9; 15]), 256);
+        let crew = answer(Call::Crew, &sheet, &[9; 17]).unwrap();
+        assert_eq!(crew, Answer { number: 0, area: [crew_bytes(&[(10, 101), (30, 101)]), vec![9]].concat() });
+    }
+
+    #[test]
+    fn with_all_steps_skipped_any_area_will_do_for_a_crew() {
+        let sheet = lay(&skipping(job_w(), 0..3)).bytes;
+        for call in [Call::Crew, Call::CrewByTrial] {
+            assert_eq!(answer(call, &sheet, &[]), Some(Answer { number: 0, area: vec![] }));
+            assert_eq!(answer(call, &sheet, &[9; 8]), Some(Answer { number: 0, area: vec![9; 8] }));
+        }
+        assert_eq!(numbers(Call::Spare { cap: 2 }, &sheet, &[0; 15]), 256);
+        let spare = answer(Call::Spare { cap: 2 }, &sheet, &[9; 16]).unwrap();
+        assert_eq!(spare, Answer { number: 0, area: spare_bytes(2, &[]) });
     }
 
     #[test]

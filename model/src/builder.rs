@@ -1,6 +1,6 @@
 //! Makes sheets from people, steps and rules, and changes single fields of them.
 
-use crate::card::{CARD, HEADER, PERSON, RULE, STEP};
+use crate::card::{CARD, HEADER, PERSON, RULE, SKIPPED, STEP};
 use crate::job::{Job, Person, Rule, Step, AT_MOST, BY_BENCH, BY_PERSON, BY_SHOP, DIFFERENT, MOST_STEPS, SAME};
 
 /// A sheet in the making. Each change gives the sheet back, so that changes can be strung together.
@@ -39,6 +39,11 @@ impl Draft {
     /// The card that follows `card` on its chain.
     pub fn next(self, card: usize, to: u16) -> Draft {
         self.word(card, 2, to)
+    }
+
+    /// The step on `card` is skipped.
+    pub fn skip(self, card: usize) -> Draft {
+        self.byte(card, 1, SKIPPED)
     }
 
     pub fn first_person(self, to: u16) -> Draft {
@@ -83,7 +88,7 @@ pub fn person(tag: u32, shop: u16, bench: u16, permitted: u16) -> Person {
 }
 
 pub fn step(tag: u32) -> Step {
-    Step { tag }
+    Step { tag, skipped: false }
 }
 
 pub fn rule(kind: u8, level: u8, limit: u8, scope: u16) -> Rule {
@@ -124,6 +129,9 @@ pub fn lay_at(job: &Job, places: &[usize]) -> Draft {
     }
     for (k, (&card, step)) in steps.iter().zip(&job.steps).enumerate() {
         draft = draft.byte(card, 0, STEP).next(card, after(steps, k)).long(card, 4, step.tag);
+        if step.skipped {
+            draft = draft.skip(card);
+        }
     }
     for (k, (&card, rule)) in rules.iter().zip(&job.rules).enumerate() {
         draft = draft
@@ -153,6 +161,12 @@ pub fn plain_job(people: usize, steps: usize, rules: usize) -> Job {
     }
 }
 
+/// The job with these steps skipped, named by their places on the chain.
+pub fn skipping(mut job: Job, steps: impl IntoIterator<Item = usize>) -> Job {
+    steps.into_iter().for_each(|step| job.steps[step].skipped = true);
+    job
+}
+
 /// A plain job that only the last person is permitted.
 pub fn last_alone(people: usize, steps: usize) -> Job {
     let mut job = plain_job(people, steps, 0);
@@ -180,6 +194,11 @@ pub fn sheet_w() -> Draft {
 /// W with its cards mixed: people at 9, 2, 7, 4, steps at 1, 10, 5, rules at 8, 3, 6.
 pub fn spread_w() -> Draft {
     lay_at(&job_w(), &[9, 2, 7, 4, 1, 10, 5, 8, 3, 6])
+}
+
+/// W with all of its steps skipped.
+pub fn skipped_w() -> Draft {
+    lay(&skipping(job_w(), 0..3))
 }
 
 /// W with one rule more.
@@ -213,7 +232,9 @@ mod tests {
         for (people, steps, rules) in [(1, 1, 0), (4, 3, 3), (MOST_PEOPLE, MOST_STEPS, MOST_RULES), (1, MOST_STEPS, 0)]
         {
             let job = plain_job(people, steps, rules);
-            assert_eq!(read(&lay(&job).bytes), Ok(job));
+            for job in [skipping(job.clone(), [steps - 1]), skipping(job.clone(), 0..steps), job] {
+                assert_eq!(read(&lay(&job).bytes), Ok(job));
+            }
         }
     }
 

@@ -13,3 +13,6 @@ pub const HEADER: u8 = 1;
 pub const PERSON: u8 = 2;
 pub const STEP: u8 = 3;
 pub const RULE: u8 = 4;
+
+/// Byte 1 of a step card that is skipped; of any other it is zero.
+pub const SKIPPED: u8 = 1;

@@ -1,9 +1,9 @@
 //! Random sheets: good ones, good ones that are damaged, and garbage.
 
 use crate::builder::Draft;
-use crate::card::{CARD, HEADER, MOST_CARDS};
+use crate::card::{CARD, HEADER, MOST_CARDS, STEP};
 use crate::job::{Job, MOST_PEOPLE, MOST_RULES, MOST_STEPS};
-use crate::jobs::{good_job, job_of, laid};
+use crate::jobs::{good_job, job_of, laid, with_skipped};
 use crate::random::Random;
 
 /// The longest noise: a length that two bytes can hold.
@@ -81,7 +81,7 @@ fn damage(random: &mut Random, draft: Draft) -> Draft {
     if draft.cards() == 0 {
         return draft;
     }
-    match random.below(16) {
+    match random.below(17) {
         0..=4 => changed_byte(random, draft),
         5..=6 => redirected(random, draft),
         7 => swapped_links(random, draft),
@@ -90,6 +90,7 @@ fn damage(random: &mut Random, draft: Draft) -> Draft {
         12 => cut_short(random, draft),
         13 => grown(random, draft),
         14 => swapped_cards(random, draft),
+        15 => marked_step(random, draft),
         _ => small_field(random, draft),
     }
 }
@@ -194,6 +195,16 @@ fn small_field(random: &mut Random, draft: Draft) -> Draft {
     draft.byte(card, at, value)
 }
 
+/// A step that is skipped or is not, or has neither mark.
+fn marked_step(random: &mut Random, draft: Draft) -> Draft {
+    let steps: Vec<usize> = (0..draft.cards()).filter(|card| draft.bytes[card * CARD] == STEP).collect();
+    if steps.is_empty() {
+        return draft;
+    }
+    let (card, mark) = (steps[random.below(steps.len())], [0, 1, 1, 2, 3, 255][random.below(6)]);
+    draft.byte(card, 1, mark)
+}
+
 /// One of the three chains too long, in a sheet that is short elsewhere.
 fn crowded(random: &mut Random) -> Draft {
     let over = random.within(1, 3);
@@ -203,6 +214,7 @@ fn crowded(random: &mut Random) -> Draft {
         _ => (random.within(1, 6), random.within(2, 6), MOST_RULES + over),
     };
     let job = job_of(random, people, steps, rules);
+    let job = with_skipped(random, job);
     let draft = laid(random, &job);
     if random.once_in(2) {
         return draft;

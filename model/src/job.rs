@@ -26,6 +26,8 @@ pub struct Person {
 #[derive(Clone, Debug, PartialEq, Eq)]
 pub struct Step {
     pub tag: u32,
+    /// The instrument does not need it: nobody does it.
+    pub skipped: bool,
 }
 
 #[derive(Clone, Debug, PartialEq, Eq)]
@@ -69,6 +71,16 @@ impl Person {
 }
 
 impl Job {
+    /// The steps that remain, by their places on the chain.
+    pub fn remaining(&self) -> impl DoubleEndedIterator<Item = usize> + '_ {
+        (0..self.steps.len()).filter(|&step| !self.steps[step].skipped)
+    }
+
+    /// "Scopes lose their skipped steps": the steps of a scope that are left.
+    pub fn left(&self, scope: u16) -> impl Iterator<Item = usize> + '_ {
+        steps_of(scope).filter(|&step| !self.steps[step].skipped)
+    }
+
     /// The people who may do a step, by their places in crew order.
     pub fn permitted(&self, step: usize) -> impl Iterator<Item = usize> + '_ {
         (0..self.people.len()).filter(move |person| self.people[*person].may(step))

@@ -1,10 +1,10 @@
 //! Random jobs that keep every bound of the paper, and their sheets.
 
-use crate::builder::{lay, lay_at, person, rule, step, Draft};
+use crate::builder::{lay, lay_at, person, rule, skipping, step, Draft};
 use crate::job::{
     has_limit, Job, Rule, AT_LEAST, AT_MOST, BY_PERSON, BY_SHOP, MOST_PEOPLE, MOST_RULES, MOST_STEPS, SAME,
 };
-use crate::plans::{is_met, plans_of, Plan, MOST_PLANS};
+use crate::plans::{is_met, plan_by, plans_of, Plan, MOST_PLANS};
 use crate::random::Random;
 use std::collections::{HashMap, HashSet};
 use std::iter::repeat_with;
@@ -81,14 +81,30 @@ pub fn job_of(random: &mut Random, people: usize, steps: usize, rules: usize) ->
     }
 }
 
+/// The job with some of its steps skipped; two times in three with none.
+pub fn with_skipped(random: &mut Random, job: Job) -> Job {
+    let steps = job.steps.len();
+    let (kind, one) = (random.below(15), random.below(steps));
+    let is_skipped = |step: &usize| match kind {
+        0 => true,
+        1 => *step == one,
+        2 => *step != one,
+        3..=4 => random.once_in(2),
+        _ => false,
+    };
+    let skipped: Vec<usize> = (0..steps).filter(is_skipped).collect();
+    skipping(job, skipped)
+}
+
 pub fn good_job(random: &mut Random) -> Job {
     let people = size(random, 1, MOST_PEOPLE);
     let steps = size(random, 1, MOST_STEPS);
     let rules = size(random, 0, MOST_RULES);
-    job_of(random, people, steps, rules)
+    let job = job_of(random, people, steps, rules);
+    with_skipped(random, job)
 }
 
-/// A job of the given size: classes that several people share, permissions tight or loose, few rules.
+/// A job of the given size: classes that several people share, permissions tight or loose, few rules, no step skipped.
 fn mixed_job(random: &mut Random, people: usize, steps: usize) -> Job {
     let (shops, benches) = (random.within(1, 3), random.within(1, 5));
     // Each permission is given so many times in four.
@@ -109,24 +125,61 @@ fn mixed_job(random: &mut Random, people: usize, steps: usize) -> Job {
     }
 }
 
+/// The same with some of its steps skipped.
+fn skipping_job(random: &mut Random, people: usize, steps: usize) -> Job {
+    let job = mixed_job(random, people, steps);
+    with_skipped(random, job)
+}
+
+/// A job of the given size with so many steps that remain, whichever they are.
+fn remaining_job(random: &mut Random, people: usize, steps: usize, remaining: usize) -> Job {
+    let job = mixed_job(random, people, steps);
+    let order = random.order(steps);
+    skipping(job, order[remaining..].iter().map(|step| step - 1))
+}
+
 /// A job of which every plan can be tried.
 pub fn small_job(random: &mut Random) -> Job {
     let (steps, people) = (random.within(1, 5), random.within(1, 6));
-    mixed_job(random, people, steps)
+    skipping_job(random, people, steps)
 }
 
-/// A job with as many people or as many steps as there may be, and so few of the others that every plan can be tried.
+/// A job with as many people or as many steps as there may be, and so few of the others that every plan can be tried, or so few
+/// steps that remain.
 pub fn lopsided_job(random: &mut Random) -> Job {
-    let (people, steps) = [(MOST_PEOPLE, 1), (MOST_PEOPLE, 2), (1, MOST_STEPS), (2, MOST_STEPS)][random.below(4)];
-    mixed_job(random, people, steps)
+    let (people, steps) = match random.below(5) {
+        0 => (MOST_PEOPLE, 1),
+        1 => (MOST_PEOPLE, 2),
+        2 => (1, MOST_STEPS),
+        3 => (2, MOST_STEPS),
+        _ => {
+            let remaining = random.within(1, 2);
+            return remaining_job(random, MOST_PEOPLE, MOST_STEPS, remaining);
+        }
+    };
+    skipping_job(random, people, steps)
 }
 
-/// A job of the given size, two steps or more, that has a plan: one is drawn first, and each rule is met by it.
+/// A job of the given size, two steps or more and none skipped, that has a plan.
 pub fn planned_job(random: &mut Random, people: usize, steps: usize, rules: usize) -> Job {
-    let mut job = mixed_job(random, people, steps);
-    let plan: Plan = (0..steps).map(|_| random.below(people)).collect();
+    let job = mixed_job(random, people, steps);
+    planned(random, job, rules)
+}
+
+/// The same with some of its steps skipped.
+pub fn planned_skipping_job(random: &mut Random, people: usize, steps: usize, rules: usize) -> Job {
+    let job = skipping_job(random, people, steps);
+    planned(random, job, rules)
+}
+
+/// The job with so many other rules, and with a plan: one is drawn first, and each rule is met by it.
+fn planned(random: &mut Random, mut job: Job, rules: usize) -> Job {
+    let (people, steps) = (job.people.len(), job.steps.len());
+    let plan: Plan = plan_by(&job, (0..steps).map(|_| random.below(people)));
     for (step, &person) in plan.iter().enumerate() {
-        job.people[person].permitted |= 1 << step;
+        if let Some(person) = person {
+            job.people[person].permitted |= 1 << step;
+        }
     }
     // The draw ends: there are no more classes in a scope than steps, so an "at most" whose limit is all its steps is always
     // met, and at least one rule in 48 is such: one kind of four, one limit of at most twelve.
@@ -147,7 +200,7 @@ fn up_to(random: &mut Random, least: usize, most: usize) -> usize {
 pub fn with_rules(random: &mut Random, most: usize) -> Job {
     let (people, steps) = (random.within(1, 6), random.within(2, 6));
     let rules = up_to(random, 1, most);
-    planned_job(random, people, steps, rules)
+    planned_skipping_job(random, people, steps, rules)
 }
 
 /// A job with few people and few steps, and up to 64 rules: the last is any, and all before it are met by every plan.
@@ -157,35 +210,40 @@ pub fn last_rule_job(random: &mut Random) -> Job {
     let before = up_to(random, 1, MOST_RULES) - 1;
     let mut rules: Vec<Rule> = (0..before).map(|_| rule(AT_MOST, any_level(random), steps as u8, all)).collect();
     rules.push(random_rule(random, steps));
-    Job { rules, ..mixed_job(random, people, steps) }
+    Job { rules, ..skipping_job(random, people, steps) }
 }
 
-/// Any number of steps, two or more, and up to as many people as leave all plans to be tried.
-fn tried_size(random: &mut Random) -> (usize, usize) {
-    let steps = random.within(2, MOST_STEPS);
-    let most = (1..=MOST_PEOPLE).rev().find(|&people| plans_of(people, steps) <= MOST_PLANS).expect("one plan can be");
-    (up_to(random, 1, most), steps)
+/// Up to as many people as leave all plans for so many steps to be tried.
+fn tried_people(random: &mut Random, remaining: usize) -> usize {
+    let is_tried = |people: &usize| plans_of(*people, remaining) <= MOST_PLANS;
+    let most = (1..=MOST_PEOPLE).rev().find(is_tried).expect("one plan can be");
+    up_to(random, 1, most)
 }
 
 /// A job of any size of which every plan can be tried, up to 64 rules among it.
 pub fn tried_job(random: &mut Random) -> Job {
-    let (people, steps) = tried_size(random);
+    let steps = random.within(2, MOST_STEPS);
+    let remaining = if random.once_in(2) { steps } else { random.within(0, steps) };
+    let people = tried_people(random, remaining);
+    let job = remaining_job(random, people, steps, remaining);
     if random.once_in(2) {
-        return mixed_job(random, people, steps);
+        return job;
     }
     let rules = size(random, 0, MOST_RULES);
-    planned_job(random, people, steps, rules)
+    planned(random, job, rules)
 }
 
 /// The same where no plan but the last can be valid: one person does all steps, and some step is permitted to the last person
 /// alone, or to nobody.
 pub fn last_plan_job(random: &mut Random) -> Job {
-    let (people, steps) = tried_size(random);
+    let steps = random.within(2, MOST_STEPS);
+    let people = tried_people(random, steps);
     let all = (1 << steps) - 1;
-    let kept = 1 << random.below(steps);
-    let mut job = mixed_job(random, people, steps);
-    job.people.iter_mut().for_each(|person| person.permitted &= !kept);
-    job.people[people - 1].permitted = if random.once_in(2) { all } else { all & !kept };
+    let kept = random.below(steps);
+    let mut job = skipping_job(random, people, steps);
+    job.steps[kept].skipped = false;
+    job.people.iter_mut().for_each(|person| person.permitted &= !(1 << kept));
+    job.people[people - 1].permitted = if random.once_in(2) { all } else { all & !(1 << kept) };
     job.rules = vec![rule(AT_MOST, BY_PERSON, 1, all)];
     job
 }
@@ -205,6 +263,7 @@ mod tests {
     use crate::plans::{all_plans, first_plan, is_small, spare};
     use crate::reader::read;
     use std::collections::BTreeSet;
+    use std::iter::repeat;
 
     #[test]
     fn small_jobs_are_small_and_readable() {
@@ -231,10 +290,12 @@ mod tests {
         let mut random = Random::new(6);
         for rules in [0, 1, 7, MOST_RULES] {
             for (people, steps) in [(1, 2), (6, 5), (MOST_PEOPLE, 2), (2, MOST_STEPS)] {
-                let job = planned_job(&mut random, people, steps, rules);
-                assert_eq!((job.people.len(), job.steps.len(), job.rules.len()), (people, steps, rules));
-                assert_eq!(read(&lay(&job).bytes).as_ref(), Ok(&job));
-                assert!(first_plan(&job, &[]).is_some());
+                for draw in [planned_job, planned_skipping_job] {
+                    let job = draw(&mut random, people, steps, rules);
+                    assert_eq!((job.people.len(), job.steps.len(), job.rules.len()), (people, steps, rules));
+                    assert_eq!(read(&lay(&job).bytes).as_ref(), Ok(&job));
+                    assert!(first_plan(&job, &[]).is_some());
+                }
             }
         }
     }
@@ -254,11 +315,34 @@ mod tests {
     fn no_plan_but_the_last_can_be_valid() {
         let mut random = Random::new(5);
         let jobs: Vec<Job> = (0..50).map(|_| last_plan_job(&mut random)).collect();
-        let last = |job: &Job| vec![job.people.len() - 1; job.steps.len()];
+        let last = |job: &Job| plan_by(job, repeat(job.people.len() - 1));
         let (with, without): (Vec<_>, Vec<_>) =
             jobs.iter().map(|job| (job, all_plans(job))).partition(|(_, plans)| !plans.is_empty());
         assert!(with.iter().all(|(job, plans)| *plans == [last(job)]));
         assert!(!with.is_empty() && !without.is_empty());
+    }
+
+    /// How many of its steps are skipped, in a word.
+    fn skipped(job: &Job) -> &'static str {
+        match (job.steps.len() - job.remaining().count(), job.steps.len()) {
+            (0, _) => "none",
+            (skipped, steps) if skipped == steps => "all",
+            (1, _) => "one",
+            _ => "several",
+        }
+    }
+
+    #[test]
+    fn steps_are_skipped_in_a_part_of_the_jobs() {
+        let mut random = Random::new(10);
+        let jobs: [fn(&mut Random) -> Job; 5] =
+            [good_job, small_job, lopsided_job, tried_job, |random| with_rules(random, 3)];
+        for draw in jobs {
+            let met: Vec<&str> = (0..600).map(|_| skipped(&draw(&mut random))).collect();
+            let times = |word| met.iter().filter(|&&found| found == word).count();
+            assert!(["one", "several", "all"].iter().all(|&word| times(word) > 10), "{met:?}");
+            assert!(times("none") > 200, "{met:?}");
+        }
     }
 
     #[test]

@@ -1,6 +1,6 @@
 //! What the papers say, in Rust: a model of the card reader, a brute force for crews, spare counts and signings, the listings of
-//! the programs, sheets built from jobs, and jobs by recipe or at random. Nothing here is taken from the library; its
-//! calls are bound under the feature `library`.
+//! the programs, sheets built from jobs, jobs by recipe or at random, and jobs without their skipped steps. Nothing here is taken
+//! from the library; its calls are bound under the feature `library`.
 
 pub mod answers;
 pub mod builder;
@@ -16,5 +16,6 @@ pub mod random;
 pub mod reader;
 pub mod recipe;
 pub mod refusal;
+pub mod shortened;
 pub mod signing;
 pub mod trial;

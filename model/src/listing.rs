@@ -1,17 +1,18 @@
 //! What the planning program prints for a sheet: its crew, its spare count and the count of each rule, or a refusal.
 
 use crate::job::{Job, Rule};
-use crate::plans::{count, first_plan, is_small, spare, Spare};
+use crate::plans::{count, crew, first_plan, is_small, spare, Spare};
 use crate::reader::read;
 use crate::refusal::{refuse, Refusal, NO_PLAN};
 
 /// The cap with which the program asks for the spare count.
 pub const CAP: usize = 2;
 
-/// "Line one: number of steps. Then step tag and person tag."
-pub fn crew_lines(job: &Job, plan: &[usize]) -> String {
-    let given = job.steps.iter().zip(plan).map(|(step, &person)| format!("{} {}\n", step.tag, job.people[person].tag));
-    format!("PLAN {}\n", job.steps.len()) + &given.collect::<String>()
+/// "Line one: number of steps. Then step tag and person tag." Both cover the steps that remain.
+pub fn crew_lines(job: &Job, plan: &[Option<usize>]) -> String {
+    let crew = crew(job, plan);
+    let given: String = crew.iter().map(|(step, person)| format!("{step} {person}\n")).collect();
+    format!("PLAN {}\n{given}", crew.len())
 }
 
 /// "Then the count and the cap. AWAY stands only when the count is below the cap."
@@ -24,8 +25,8 @@ fn spare_lines(job: &Job, spare: &Spare) -> String {
     format!("{counted}AWAY{tags}\n")
 }
 
-/// "A line for each rule, in chain order: `RULE`, its kind, level, limit and count."
-pub fn rule_lines(job: &Job, plan: &[usize]) -> String {
+/// "A line for each rule, in chain order: `RULE`, its kind, level, limit and count", the limit "as the card has" it.
+pub fn rule_lines(job: &Job, plan: &[Option<usize>]) -> String {
     let line = |rule: &Rule| {
         let Rule { kind, level, limit, .. } = rule;
         format!("RULE {kind} {level} {limit} {}\n", count(job, rule, plan))
@@ -39,7 +40,7 @@ pub fn refusal_line(refusal: Refusal) -> String {
 }
 
 /// All lines for a job with this crew and this spare count.
-pub fn text(job: &Job, plan: &[usize], spare: &Spare) -> String {
+pub fn text(job: &Job, plan: &[Option<usize>], spare: &Spare) -> String {
     crew_lines(job, plan) + &spare_lines(job, spare) + &rule_lines(job, plan)
 }
 
@@ -63,7 +64,7 @@ pub fn listing(sheet: &[u8]) -> Option<String> {
 #[cfg(test)]
 mod tests {
     use super::*;
-    use crate::builder::{job_w, lay, one_by_one, person, plain, plain_job, rule, sheet_w, w_and};
+    use crate::builder::{job_w, lay, one_by_one, person, plain, plain_job, rule, sheet_w, skipping, w_and};
     use crate::job::{AT_LEAST, AT_MOST, BY_BENCH, BY_PERSON, BY_SHOP, MOST_RULES};
 
     fn listed(job: &Job) -> String {
@@ -133,6 +134,26 @@ mod tests {
         job.rules = (0..MOST_RULES).map(figures).map(|(level, limit)| rule(AT_MOST, level, limit, 6)).collect();
         let expected = (0..MOST_RULES).map(figures).map(|(level, limit)| format!("3 {level} {limit} 1"));
         assert_eq!(rules(&job), expected.collect::<Vec<_>>());
+    }
+
+    #[test]
+    fn the_steps_that_remain_are_listed_and_limits_as_the_cards_have_them() {
+        let mut job = job_w();
+        job.rules.push(rule(AT_LEAST, BY_PERSON, 3, 7));
+        let crew = "PLAN 2\n20 101\n30 102\nSPARE 1 OF 2\nAWAY 101 102\n";
+        let rules = "RULE 1 2 0 1\nRULE 1 1 0 1\nRULE 2 3 0 2\nRULE 4 3 3 2\n";
+        assert_eq!(listed(&skipping(job.clone(), [0])), format!("{crew}{rules}"));
+        let crew = "PLAN 1\n10 101\nSPARE 1 OF 2\nAWAY 101 102\n";
+        let rules = "RULE 1 2 0 1\nRULE 1 1 0 0\nRULE 2 3 0 0\nRULE 4 3 3 1\n";
+        assert_eq!(listed(&skipping(job, [1, 2])), format!("{crew}{rules}"));
+    }
+
+    #[test]
+    fn with_all_steps_skipped_the_crew_is_empty() {
+        let none = "PLAN 0\nSPARE 2 OF 2\n";
+        assert_eq!(listed(&skipping(job_w(), 0..3)), format!("{none}RULE 1 2 0 0\nRULE 1 1 0 0\nRULE 2 3 0 0\n"));
+        // Nobody is permitted the step, and there are fewer people than the cap.
+        assert_eq!(listing(&one_by_one(0).skip(2).bytes).as_deref(), Some(none));
     }
 
     #[test]

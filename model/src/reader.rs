@@ -1,6 +1,6 @@
 //! The card reader as the paper on the job sheet describes it, in the paper's order.
 
-use crate::card::{CARD, HEADER, MOST_BYTES, PERSON, RULE, STEP};
+use crate::card::{CARD, HEADER, MOST_BYTES, PERSON, RULE, SKIPPED, STEP};
 use crate::job::{
     Job, Person, Rule, Step, AT_LEAST, AT_MOST, BY_PERSON, BY_SHOP, DIFFERENT, MOST_PEOPLE, MOST_RULES, MOST_STEPS,
     SAME,
@@ -36,10 +36,11 @@ fn person(card: &[u8]) -> Option<Person> {
     (named && unnamed && found.permitted < 1 << MOST_STEPS).then_some(found)
 }
 
-/// "Step: bytes 4-7 tag, not zero."
+/// "Step: bytes 4-7 tag, not zero." "Byte 1 of a step card may be 1, skipped."
 fn step(card: &[u8]) -> Option<Step> {
-    let tag = long(card, 4);
-    (tag != 0 && card[1] == 0 && zero(&card[8..])).then_some(Step { tag })
+    let found = Step { tag: long(card, 4), skipped: card[1] == SKIPPED };
+    let marked = card[1] == 0 || card[1] == SKIPPED;
+    (found.tag != 0 && marked && zero(&card[8..])).then_some(found)
 }
 
 /// Rule kinds 1 and 2 have two steps in scope and limit 0; 3 and 4 two or more, and limit 1 to their number.
@@ -108,7 +109,7 @@ fn held<T>(chain: Vec<(usize, T)>) -> Vec<T> {
 
 /// Reads a sheet: the job, or the first refusal found.
 pub fn read(sheet: &[u8]) -> Result<Job, Refusal> {
-    if sheet.is_empty() || sheet.len() % CARD != 0 || sheet.len() > MOST_BYTES {
+    if sheet.is_empty() || !sheet.len().is_multiple_of(CARD) || sheet.len() > MOST_BYTES {
         return refuse(BAD_LENGTH, 0);
     }
     let cards: Vec<&[u8]> = sheet.chunks(CARD).collect();
@@ -154,10 +155,10 @@ pub fn read(sheet: &[u8]) -> Result<Job, Refusal> {
     Ok(Job { people: held(people), steps: held(steps), rules: held(rules) })
 }
 
-/// The answer as the program under test writes it.
+/// The answer as the program under test writes it: of the steps those that remain.
 pub fn text(answer: &Result<Job, Refusal>) -> String {
     match answer {
-        Ok(job) => format!("READ {} {} {}", job.people.len(), job.steps.len(), job.rules.len()),
+        Ok(job) => format!("READ {} {} {}", job.people.len(), job.remaining().count(), job.rules.len()),
         Err(refusal) => refusal.to_string(),
     }
 }
@@ -194,7 +195,7 @@ mod tests {
         let job = read(&W).expect("sheet W is readable");
         let people = vec![at(101, 1, 1, 7), at(102, 1, 1, 7), at(103, 1, 2, 4), at(104, 2, 3, 4)];
         assert_eq!(job.people, people);
-        assert_eq!(job.steps, vec![Step { tag: 10 }, Step { tag: 20 }, Step { tag: 30 }]);
+        assert_eq!(job.steps, [10, 20, 30].map(|tag| Step { tag, skipped: false }));
         assert_eq!(job.rules, vec![over(1, 2, 0, 3), over(1, 1, 0, 6), over(2, 3, 0, 6)]);
         assert_eq!(text(&Ok(job)), "READ 4 3 3");
     }
@@ -209,6 +210,41 @@ mod tests {
         let mut sheet = W;
         sheet[16 + 5] = 2;
         assert_eq!(read(&sheet).unwrap().people[0].tag, 101 + 2 * 256);
+    }
+
+    #[test]
+    fn a_step_is_skipped_by_its_byte_1_alone() {
+        let marked = |byte: u8| {
+            let mut sheet = W;
+            sheet[16 * 6 + 1] = byte;
+            read(&sheet)
+        };
+        let skipped = |job: Job| job.steps.iter().map(|step| step.skipped).collect::<Vec<_>>();
+        assert_eq!(marked(0).map(skipped), Ok(vec![false; 3]));
+        assert_eq!(marked(1).map(skipped), Ok(vec![false, true, false]));
+        assert_eq!(text(&marked(1)), "READ 4 2 3");
+        for byte in 2..=255 {
+            assert_eq!(marked(byte), Err(Refusal { number: 8, card: 6 }));
+        }
+    }
+
+    #[test]
+    fn fields_are_checked_as_the_card_has_them() {
+        let all_skipped = [5, 6, 7].iter().fold(W, |mut sheet, step| {
+            sheet[16 * step + 1] = 1;
+            sheet
+        });
+        assert_eq!(text(&read(&all_skipped)), "READ 4 0 3");
+        // Permitted step 3 of three; three steps in scope; the tag of a step that is skipped too.
+        for (at, value, answer) in [
+            (16 * 2 + 12, 8, "REFUSED 8 CARD 2"),
+            (16 * 9 + 6, 7, "REFUSED 8 CARD 9"),
+            (16 * 7 + 4, 10, "REFUSED 10 CARD 7"),
+        ] {
+            let mut sheet = all_skipped;
+            sheet[at] = value;
+            assert_eq!(text(&read(&sheet)), answer);
+        }
     }
 
     #[test]

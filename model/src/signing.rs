@@ -10,7 +10,8 @@ use crate::refusal::{Refusal, NOT_GRANTED, NO_PLAN, STEP_SIGNED, UNKNOWN};
 /// "The job also counts refused signings from 0, stopping at 1,000,000."
 pub const MOST_REFUSALS: u32 = 1_000_000;
 
-/// For each step who signed it, counted from 1 in crew order; 0 where it is open.
+/// For each step that remains, one after the other, who signed it, counted from 1 in crew order; 0 where it is open, and after
+/// the last.
 pub type Signers = [u8; MOST_STEPS];
 
 /// The job in the host's memory, laid out as in the C header.
@@ -47,7 +48,9 @@ impl Work {
 
 /// Whether some valid plan gives each signed step to its signer.
 pub fn has_plan(job: &Job, signer: &Signers) -> bool {
-    first_suiting(job, |step, person| signer[step] == 0 || usize::from(signer[step]) == person + 1).is_some()
+    let before = |step| job.remaining().take_while(|&other| other < step).count();
+    let suits = |signer: u8, person| signer == 0 || usize::from(signer) == person + 1;
+    first_suiting(job, |step, person| suits(signer[before(step)], person)).is_some()
 }
 
 /// "Opening, the first time too, clears signings and count"; refused, it "leaves the job untouched". Nothing is returned where
@@ -66,12 +69,13 @@ pub fn open(work: &mut Work, sheet: &[u8]) -> Option<u32> {
 }
 
 /// The places of step and person where they may sign, else the refusal's number: "with 14 an unknown step or person, with 15 a
-/// signed step, with 16 any other signing not granted, tested in that order".
+/// signed step, with 16 any other signing not granted, tested in that order". The place of a step is that among those that
+/// remain: "for signing, a skipped step is unknown".
 fn judged(work: &Work, step: u32, person: u32) -> Option<Result<(usize, usize), u32>> {
     let Some(job) = work.job() else {
         return Some(Err(UNKNOWN));
     };
-    let place = job.steps.iter().position(|known| known.tag == step);
+    let place = job.remaining().position(|known| job.steps[known].tag == step);
     let signer = job.people.iter().position(|known| known.tag == person);
     let (Some(place), Some(signer)) = (place, signer) else {
         return Some(Err(UNKNOWN));
@@ -112,17 +116,22 @@ pub fn refusals(work: &Work) -> u32 {
 #[cfg(test)]
 mod tests {
     use super::*;
-    use crate::builder::{plain, sheet_w, w_and};
+    use crate::builder::{job_w, lay, plain, sheet_w, skipping, w_and};
+    use crate::job::Job;
 
     const GRANTED: u32 = 0;
     const UNKNOWN_NUMBER: u32 = 14 * 256;
     const SIGNED: u32 = 15 * 256;
     const REFUSED: u32 = 16 * 256;
 
-    fn w() -> Work {
+    fn opened(job: &Job) -> Work {
         let mut work = Work::NEW;
-        assert_eq!(open(&mut work, &sheet_w().bytes), Some(0));
+        assert_eq!(open(&mut work, &lay(job).bytes), Some(0));
         work
+    }
+
+    fn w() -> Work {
+        opened(&job_w())
     }
 
     fn signed(work: &mut Work, step: u32, person: u32) -> u32 {
@@ -153,6 +162,40 @@ mod tests {
         assert_eq!(signed(&mut work, 0, 101), UNKNOWN_NUMBER);
         assert_eq!(signed(&mut work, 10, 0), UNKNOWN_NUMBER);
         assert_eq!(refusals(&work), 7);
+    }
+
+    #[test]
+    fn a_skipped_step_is_unknown_and_the_others_are_signed_one_after_the_other() {
+        let mut work = opened(&skipping(job_w(), [0]));
+        assert_eq!(signed(&mut work, 10, 101), UNKNOWN_NUMBER);
+        assert_eq!(signed(&mut work, 30, 103), GRANTED);
+        assert_eq!(work.signer[..3], [0, 3, 0]);
+        assert_eq!(signed(&mut work, 30, 101), SIGNED);
+        // 104 may do step 30 alone.
+        assert_eq!(signed(&mut work, 20, 104), REFUSED);
+        assert_eq!(signed(&mut work, 20, 102), GRANTED);
+        assert_eq!((work.signer[..3].to_vec(), refusals(&work)), (vec![2, 3, 0], 3));
+    }
+
+    #[test]
+    fn signers_bind_the_steps_that_remain() {
+        // Steps 10 and 30 by different people: who signs one, signs not the other.
+        let mut job = skipping(job_w(), [1]);
+        job.rules[2].scope = 0b101;
+        let mut work = opened(&job);
+        assert_eq!(signed(&mut work, 30, 102), GRANTED);
+        assert_eq!(signed(&mut work, 10, 102), REFUSED);
+        assert_eq!(signed(&mut work, 10, 101), GRANTED);
+        assert_eq!(work.signer[..3], [1, 2, 0]);
+    }
+
+    #[test]
+    fn with_all_steps_skipped_a_job_opens_and_every_step_is_unknown() {
+        let mut work = opened(&skipping(job_w(), 0..3));
+        for step in [10, 20, 30, 0] {
+            assert_eq!(signed(&mut work, step, 101), UNKNOWN_NUMBER);
+        }
+        assert_eq!((work.signer, refusals(&work)), ([0; MOST_STEPS], 4));
     }
 
     #[test]

@@ -3,18 +3,19 @@
 
 use crate::job::Job;
 use crate::listing::{crew_lines, refusal_line, rule_lines};
-use crate::plans::{is_met, plans, Plan, MOST_PLANS};
+use crate::plans::{crew, is_met, plan_by, plans, Plan, MOST_PLANS};
 use crate::reader::read;
 use crate::refusal::{Refusal, NO_PLAN};
 
 /// How many plans a sheet may have for each of them to be printed.
 pub const SHOWN: u128 = 1_000;
 
-/// The plan at a place in plan order, from 0 on: its people are the digits of the place, the first step has the highest.
+/// The plan at a place in plan order, from 0 on: its people are the digits of the place, the first step that remains has the
+/// highest.
 pub fn plan_at(job: &Job, place: u128) -> Plan {
     let people = job.people.len() as u128;
     let digit = |after: usize| place / people.pow(after as u32) % people;
-    (0..job.steps.len()).rev().map(|after| digit(after) as usize).collect()
+    plan_by(job, (0..job.remaining().count()).rev().map(|after| digit(after) as usize))
 }
 
 /// What trying a plan shows.
@@ -31,8 +32,9 @@ pub enum Verdict {
     Valid,
 }
 
-pub fn verdict(job: &Job, plan: &[usize]) -> Verdict {
-    if let Some(step) = (0..plan.len()).find(|&step| !job.people[plan[step]].may(step)) {
+pub fn verdict(job: &Job, plan: &[Option<usize>]) -> Verdict {
+    let is_denied = |step: usize| plan[step].is_some_and(|person| !job.people[person].may(step));
+    if let Some(step) = (0..plan.len()).find(|&step| is_denied(step)) {
         return Verdict::Denied { step };
     }
     match job.rules.iter().position(|rule| !is_met(job, rule, plan)) {
@@ -61,8 +63,8 @@ pub fn try_every(job: &Job) -> Option<Tried> {
 }
 
 /// The person tags of a plan in the order of the steps, and what trying it has shown; rules are counted from 1.
-fn trial_line(job: &Job, plan: &[usize]) -> String {
-    let tags: String = plan.iter().map(|&person| format!(" {}", job.people[person].tag)).collect();
+fn trial_line(job: &Job, plan: &[Option<usize>]) -> String {
+    let tags: String = crew(job, plan).iter().map(|(_, person)| format!(" {person}")).collect();
     let shown = match verdict(job, plan) {
         Verdict::Denied { step } => format!("DENIED {}", job.steps[step].tag),
         Verdict::Breaks { rule } => format!("BREAKS {}", rule + 1),
@@ -92,7 +94,7 @@ pub fn listing(sheet: &[u8]) -> Option<String> {
 #[cfg(test)]
 mod tests {
     use super::*;
-    use crate::builder::{job_w, lay, one_by_one, person, plain, plain_job, rule, sheet_w, w_and};
+    use crate::builder::{job_w, lay, one_by_one, person, plain, plain_job, rule, sheet_w, skipping, w_and};
     use crate::job::{AT_LEAST, AT_MOST, BY_PERSON, DIFFERENT, MOST_PEOPLE, MOST_RULES, MOST_STEPS, SAME};
     use crate::jobs::small_job;
     use crate::plans::{first_plan, is_valid};
@@ -124,7 +126,7 @@ mod tests {
     fn plans_come_in_plan_order_up_to_the_last() {
         let job = job_w();
         let found: Vec<Plan> = (0..plans(&job)).map(|place| plan_at(&job, place)).collect();
-        let (mut sorted, last) = (found.clone(), [3, 3, 3]);
+        let (mut sorted, last) = (found.clone(), [Some(3); 3]);
         sorted.sort();
         sorted.dedup();
         assert_eq!((found.len(), found.last().map(Vec::as_slice)), (64, Some(&last[..])));
@@ -155,13 +157,35 @@ mod tests {
             ([1, 0, 0], Verdict::Breaks { rule: 1 }),
             ([0, 0, 0], Verdict::Breaks { rule: 2 }),
         ] {
-            assert_eq!(verdict(&job, &plan), shown, "{plan:?}");
+            assert_eq!(verdict(&job, &plan_by(&job, plan)), shown, "{plan:?}");
         }
         job.rules.pop();
-        assert_eq!(verdict(&job, &[0, 0, 0]), Verdict::Valid);
+        assert_eq!(verdict(&job, &[Some(0); 3]), Verdict::Valid);
         let lines =
             "TRIED 1\nTRY 1001 1001 1001 VALID\nPLAN 3\n2001 1001\n2002 1001\n2003 1001\nRULE 3 3 3 1\nRULE 1 3 0 1\n";
         assert_eq!(listed(&job), lines);
+    }
+
+    #[test]
+    fn the_steps_that_remain_are_tried() {
+        let job = skipping(job_w(), [0]);
+        assert_eq!(plans(&job), 16);
+        assert_eq!(plan_at(&job, 7), [None, Some(1), Some(3)]);
+        let trials = "TRIED 2\nTRY 101 101 BREAKS 3\nTRY 101 102 VALID\n";
+        let rules = "RULE 1 2 0 1\nRULE 1 1 0 1\nRULE 2 3 0 2\n";
+        assert_eq!(listed(&job), format!("{trials}PLAN 2\n20 101\n30 102\n{rules}"));
+        // Only the skipped step is permitted.
+        let mut idle = skipping(plain_job(1, 2, 0), [0]);
+        idle.people[0].permitted = 0b01;
+        assert_eq!(listed(&idle), "TRIED 1\nTRY 1001 DENIED 2002\nREFUSED 13 CARD 0\n");
+    }
+
+    #[test]
+    fn with_all_steps_skipped_the_empty_plan_is_tried() {
+        let rules = "RULE 1 2 0 0\nRULE 1 1 0 0\nRULE 2 3 0 0\n";
+        assert_eq!(listed(&skipping(job_w(), 0..3)), format!("TRIED 1\nTRY VALID\nPLAN 0\n{rules}"));
+        let large = skipping(plain_job(MOST_PEOPLE, MOST_STEPS, 0), 0..MOST_STEPS);
+        assert_eq!(listed(&large), "TRIED 1\nTRY VALID\nPLAN 0\n");
     }
 
     #[test]

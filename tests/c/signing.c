@@ -1,4 +1,5 @@
-/* Jobs under work, by sheet W: where each field lies, openings, signings, copies, and memory that no call has made.
+/* Jobs under work, by sheet W: where each field lies, openings, signings, skipped steps, copies, and memory that no call
+ * has made.
  *
  *   signing            sheets read-only; jobs and sheets end, then begin, at a page that faults
  *   signing --plain    areas from malloc, for valgrind: what was never written to must not matter */
@@ -102,6 +103,9 @@ static void refuse_openings(struct fulmarinvar_job *job) {
     expect("the header alone", open_with(job, &bad, 16), 4 * 256);
     card(&bad, 6)[15] = 1;
     expect("a bad step", open_with(job, &bad, length), 8 * 256 + 6);
+    card(&bad, 6)[15] = 0;
+    card(&bad, 6)[1] = 2;
+    expect("a step neither skipped nor not", open_with(job, &bad, length), 8 * 256 + 6);
     sheet_w(&bad);
     rule(&bad, DIFFERENT, BY_SHOP, 0, 6);
     expect("no plan", open_with(job, &bad, sheet_length(&bad)), NO_PLAN);
@@ -122,6 +126,48 @@ static void refused_openings_leave_every_byte(void) {
     sign(job, 20, 102, REFUSED);
     sign(job, 20, 101, GRANTED);
     expect_refusals(job, 2);
+    area_give_back(&area);
+}
+
+/* W with the steps of a mask skipped: bit j is set for step j. Its step cards lie behind the header and four people. */
+static void sheet_w_skipping(struct sheet *sheet, unsigned skipped) {
+    sheet_w(sheet);
+    for (uint16_t j = 0; j < 3; j++) {
+        card(sheet, (uint16_t)(5 + j))[1] = skipped >> j & 1;
+    }
+}
+
+/* The steps that remain have their signers one after the other. */
+static void a_skipped_step_is_unknown(void) {
+    struct area area = take_job();
+    struct fulmarinvar_job *job = job_of(&area);
+    struct sheet w;
+    sheet_w_skipping(&w, 1);
+    expect("opening", open_with(job, &w, sheet_length(&w)), 0);
+    sign(job, 10, 101, UNKNOWN);
+    sign(job, 30, 104, REFUSED);
+    sign(job, 30, 103, GRANTED);
+    expect_bytes("the second", job->signer, "\0\3\0\0\0\0\0\0\0\0\0\0", FULMARINVAR_MOST_STEPS);
+    sign(job, 10, 102, UNKNOWN);
+    sign(job, 20, 102, GRANTED);
+    sign(job, 20, 101, SIGNED);
+    expect_bytes("both", job->signer, "\2\3\0\0\0\0\0\0\0\0\0\0", FULMARINVAR_MOST_STEPS);
+    expect_refusals(job, 4);
+    area_give_back(&area);
+}
+
+static void with_all_skipped_every_step_is_unknown(void) {
+    struct fulmarinvar_job stated = {.refusals = 3};
+    struct area area = take_job();
+    struct sheet w;
+    sheet_w_skipping(&w, 7);
+    stated.sheet_len = (uint32_t)sheet_length(&w);
+    memcpy(stated.sheet, w.bytes, sheet_length(&w));
+    expect("opening", open_with(job_of(&area), &w, sheet_length(&w)), 0);
+    sign(job_of(&area), 10, 101, UNKNOWN);
+    sign(job_of(&area), 20, 101, UNKNOWN);
+    sign(job_of(&area), 30, 101, UNKNOWN);
+    expect_bytes("the job", area.bytes, &stated, JOB);
     area_give_back(&area);
 }
 
@@ -155,6 +201,8 @@ static const struct test tests[] = {
     {"the sheet is not needed", the_sheet_is_not_needed},
     {"never opened", never_opened},
     {"refused openings leave every byte", refused_openings_leave_every_byte},
+    {"a skipped step is unknown", a_skipped_step_is_unknown},
+    {"with all skipped every step is unknown", with_all_skipped_every_step_is_unknown},
     {"a copy is independent", a_copy_is_independent},
     {"known cases of other memory", known_cases_of_other_memory},
     {"noise for a job", noise_for_a_job},

@@ -1,8 +1,10 @@
 //! The paper's sheets to try through the calls that plan, each with the number and the bytes that the paper gives it; then caps,
-//! and the order of refusals.
+//! the order of refusals, and skipped steps.
 
-use model::answers::{crew_bytes, spare_bytes, Call};
-use model::builder::{one_by_one, plain, sheet_w, shorter_w, w_and, Draft};
+use crate::skipped;
+use model::answers::{crew_bytes, spare_bytes, Call, MOST_CAP, SPARE_BYTES, STEP_BYTES};
+use model::builder::{lay, one_by_one, plain, sheet_w, shorter_w, skipped_w, w_and, Draft};
+use model::job::MOST_STEPS;
 
 /// A call, and what is stated of it. `written` are the first bytes of the area afterwards; the others are kept.
 #[derive(Clone, Debug)]
@@ -68,6 +70,9 @@ pub fn all() -> Vec<Trial> {
     trials.extend(rooms());
     trials.extend(caps());
     trials.extend(refusals_in_order());
+    trials.extend(skipped::all().iter().flat_map(skipping));
+    trials.extend(rooms_of_skipped());
+    trials.extend(all_skipped());
     let crews: Vec<Trial> = trials.iter().filter(|trial| trial.call == Call::Crew).cloned().collect();
     trials.extend(crews.iter().map(by_trial));
     trials
@@ -191,6 +196,61 @@ fn refusals_in_order() -> Vec<Trial> {
         trial("order, no plan last", two, &none, 16, Err(13 * 256)),
         trial("order, no plan last", Call::Crew, &none, 24, Err(13 * 256)),
     ]
+}
+
+/// "Plan, crew bytes, PLAN line and buffer length cover the steps that remain."
+fn skipping(sheet: &skipped::Sheet) -> [Trial; 2] {
+    let skipped::Sheet { name, job, planned, .. } = sheet;
+    let draft = lay(job);
+    match planned {
+        Some(planned) => [crew(name, &draft, &planned.crew), spare(name, &draft, 2, planned.count, &planned.away)],
+        None => refused(name, &draft, 13, 0),
+    }
+}
+
+/// Areas that are just long enough for the steps that remain, and one byte less.
+fn rooms_of_skipped() -> Vec<Trial> {
+    let one = sheet_w().skip(5);
+    let two = sheet_w().skip(5).skip(7);
+    let none = w_and(3, 3, 1, 7).skip(5);
+    let eleven = plain(1, 12, 0).skip(13);
+    let crew = |name: &str, sheet: &Draft, room, outcome| trial(name, Call::Crew, sheet, room, outcome);
+    vec![
+        crew("skipped, two steps left, 16 bytes", &one, 16, Ok(crew_bytes(&[(20, 101), (30, 102)]))),
+        crew("skipped, two steps left, 15 bytes", &one, 15, Err(256)),
+        crew("skipped, two steps left, 23 bytes", &one, 23, Ok(crew_bytes(&[(20, 101), (30, 102)]))),
+        crew("skipped, one step left, 8 bytes", &two, 8, Ok(crew_bytes(&[(20, 101)]))),
+        crew("skipped, one step left, 7 bytes", &two, 7, Err(256)),
+        crew("skipped, one step left, no bytes", &two, 0, Err(256)),
+        crew("skipped, two steps left, room before no plan", &none, 15, Err(256)),
+        crew("skipped, two steps left, no plan last", &none, 16, Err(13 * 256)),
+        crew("skipped, 11 steps left, 88 bytes", &eleven, 88, Ok(crew_bytes(&by_one(11)))),
+        crew("skipped, 11 steps left, 87 bytes", &eleven, 87, Err(256)),
+    ]
+}
+
+/// "With all skipped the crew is empty and the spare count equals the cap", whatever the area of the crew, and also where there
+/// are fewer people than the cap.
+fn all_skipped() -> Vec<Trial> {
+    let (w, lone) = (skipped_w(), one_by_one(1).skip(2));
+    let twelve = (2..=13).fold(plain(1, MOST_STEPS, 0), Draft::skip);
+    let mut trials: Vec<Trial> = [0, 1, STEP_BYTES, 24]
+        .map(|room| trial(&format!("skipped, all of W, {room} bytes"), Call::Crew, &w, room, Ok(vec![])))
+        .into();
+    trials.push(trial("skipped, all of 12, no bytes", Call::Crew, &twelve, 0, Ok(vec![])));
+    for cap in 0..=MOST_CAP {
+        for (name, sheet) in
+            [("skipped, all of W", &w), ("skipped, all of one", &lone), ("skipped, all of 12", &twelve)]
+        {
+            trials.push(spare(name, sheet, cap, cap as usize, &[]));
+        }
+    }
+    let (two, four) = (Call::Spare { cap: 2 }, Call::Spare { cap: 4 });
+    trials.extend([
+        trial("skipped, all of W, 15 bytes", two, &w, SPARE_BYTES - 1, Err(256)),
+        trial("skipped, all of W", four, &w, SPARE_ROOM, Err(2 * 256)),
+    ]);
+    trials
 }
 
 #[cfg(test)]

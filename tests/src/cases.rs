@@ -1,5 +1,5 @@
-//! The file from which the trials in C take their cases: the paper's sheets, W with every area up to that of its crew, then W cut
-//! short and W damaged.
+//! The file from which the trials in C take their cases: the paper's sheets and those with skipped steps, W with every area up to
+//! that of its crew, also with steps skipped, then W cut short and W damaged.
 //!
 //! All numbers have their low byte first. First the sheets: how many (u16), and for each its length (u16) and bytes.
 //! Then the cases: how many (u32), and for each
@@ -9,7 +9,7 @@
 
 use crate::calls;
 use model::answers::{self, answer, Call, SPARE_BYTES};
-use model::builder::{sheet_w, Draft};
+use model::builder::{sheet_w, skipped_w, Draft};
 use model::reader::read;
 
 const UNDAMAGED: u16 = u16::MAX;
@@ -56,10 +56,17 @@ fn asked(name: String, call: Call, sheet: &[u8], room: usize) -> calls::Trial {
     calls::Trial { name, call, sheet: sheet.to_vec(), room, number: found.number, written }
 }
 
-/// Each call on W with an area of each length, none among them.
-fn rooms() -> impl Iterator<Item = calls::Trial> {
+/// Each call with an area of each length, none among them.
+fn rooms(name: &str, sheet: &Draft) -> Vec<calls::Trial> {
     let each = CALLS.into_iter().flat_map(|(call, _)| (0..=W_ROOM).map(move |room| (call, room)));
-    each.map(|(call, room)| asked(format!("W, an area of {room}: {}", call.name()), call, &sheet_w().bytes, room))
+    let name = |call: Call, room: usize| format!("{name}, an area of {room}: {}", call.name());
+    each.map(|(call, room)| asked(name(call, room), call, &sheet.bytes, room)).collect()
+}
+
+/// W, and W with one and with all of its steps skipped.
+fn rooms_of_w() -> Vec<calls::Trial> {
+    let (one, all) = (sheet_w().skip(6), skipped_w());
+    [rooms("W", &sheet_w()), rooms("W, step 20 skipped", &one), rooms("W, all steps skipped", &all)].concat()
 }
 
 /// W cut to each length, and with each bit of each byte changed.
@@ -84,7 +91,7 @@ pub fn file() -> Vec<u8> {
     let mut sheets = vec![sheet_w().bytes];
     let mut cases = vec![];
     let mut count: u32 = 0;
-    for trial in calls::all().into_iter().chain(rooms()) {
+    for trial in calls::all().into_iter().chain(rooms_of_w()) {
         let sheet = sheets.iter().position(|sheet| *sheet == trial.sheet).unwrap_or(sheets.len());
         if sheet == sheets.len() {
             sheets.push(trial.sheet.clone());

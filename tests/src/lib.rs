@@ -8,5 +8,6 @@ pub mod listings;
 pub mod numbers;
 pub mod order;
 pub mod records;
+pub mod skipped;
 pub mod tally;
 pub mod trials;

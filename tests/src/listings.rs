@@ -1,7 +1,8 @@
 //! The stored listings: what a program prints for each of some sheets, under the sheet's name.
 
+use crate::skipped;
 use crate::trials::papers;
-use model::builder::{last_alone, lay, plain_job, rule};
+use model::builder::{last_alone, lay, plain_job, rule, skipping};
 use model::job::{Job, Rule, AT_LEAST, AT_MOST, BY_PERSON, BY_SHOP, DIFFERENT, MOST_PEOPLE, MOST_RULES, MOST_STEPS};
 
 /// A file of listings, who gives them, and the sheets with their names.
@@ -13,10 +14,10 @@ pub struct Stored {
 
 pub type Named = (String, Vec<u8>);
 
-/// The planning program on the paper's sheets.
-pub const PLANNER: Stored = Stored { file: "tests/listings.txt", listing: model::listing::listing, sheets: of_papers };
+/// The planning program on the paper's sheets, and on sheets with skipped steps.
+pub const PLANNER: Stored = Stored { file: "tests/listings.txt", listing: model::listing::listing, sheets: to_plan };
 
-/// The program that tries every plan on the paper's sheets, which have few, and on sheets with more.
+/// The program that tries every plan on the paper's sheets, which have few, on sheets with more, and with skipped steps.
 pub const BY_TRIAL: Stored = Stored { file: "tests/by_trial.txt", listing: model::trial::listing, sheets: to_try };
 
 impl Stored {
@@ -34,10 +35,22 @@ fn of_papers() -> Vec<Named> {
     papers::trials().into_iter().map(|trial| (trial.name, trial.sheet)).collect()
 }
 
+fn with_skipped() -> impl Iterator<Item = Named> {
+    skipped::all().into_iter().map(|sheet| named(&sheet.name, &sheet.job))
+}
+
+fn to_plan() -> Vec<Named> {
+    let mut sheets = of_papers();
+    sheets.extend(with_skipped());
+    sheets
+}
+
 fn to_try() -> Vec<Named> {
     let mut sheets = of_papers();
     sheets.extend(by_plans());
     sheets.extend(by_size());
+    sheets.extend(with_skipped());
+    sheets.extend(by_plans_left());
     sheets
 }
 
@@ -80,6 +93,18 @@ fn by_size() -> [Named; 6] {
         named("two people, 12 steps, the last two by different people", &ruled(2, MOST_STEPS, vec![last_two])),
         named("two people, two steps, 64 rules, the last alone not always met", &ruled(2, 2, rules)),
         named("64 people, 12 steps, 64 rules", &plain_job(MOST_PEOPLE, MOST_STEPS, MOST_RULES)),
+    ]
+}
+
+/// Sheets by how many plans they have over the steps that remain: as many as are printed, and the next number of them.
+fn by_plans_left() -> [Named; 2] {
+    let at_work = |people, left: usize, least| {
+        let job = ruled(people, MOST_STEPS, vec![rule(AT_LEAST, BY_PERSON, least, (1 << MOST_STEPS) - 1)]);
+        skipping(job, left..MOST_STEPS)
+    };
+    [
+        named("1,000 plans, ten people, three of 12 steps left", &at_work(10, 3, MOST_STEPS as u8)),
+        named("1,024 plans, four people, five of 12 steps left", &at_work(4, 5, 4)),
     ]
 }
 
@@ -129,6 +154,28 @@ mod tests {
         }
     }
 
+    #[test]
+    fn sheets_with_skipped_steps_are_listed_as_was_worked_out_by_hand() {
+        let file = PLANNER.text();
+        for sheet in skipped::all() {
+            let Some(planned) = sheet.planned else {
+                assert_eq!(under(&file, &sheet.name), Some("REFUSED 13 CARD 0\n"), "{}", sheet.name);
+                continue;
+            };
+            let mut lines = format!("PLAN {}\n", sheet.remaining);
+            lines.extend(planned.crew.iter().map(|(step, person)| format!("{step} {person}\n")));
+            lines += &format!("SPARE {} OF 2\n", planned.count);
+            if planned.count < 2 {
+                let away: String = planned.away.iter().map(|tag| format!(" {tag}")).collect();
+                lines += &format!("AWAY{away}\n");
+            }
+            for (Rule { kind, level, limit, .. }, figure) in sheet.job.rules.iter().zip(planned.figures) {
+                lines += &format!("RULE {kind} {level} {limit} {figure}\n");
+            }
+            assert_eq!(under(&file, &sheet.name), Some(lines.as_str()), "{}", sheet.name);
+        }
+    }
+
     fn rule_lines(lines: &[&str]) -> usize {
         lines.iter().filter(|line| line.starts_with("RULE")).count()
     }
@@ -136,7 +183,7 @@ mod tests {
     #[test]
     fn trials_are_those_that_were_worked_out_by_hand() {
         // The first lines, and how many TRY lines there are.
-        let stated: [(&str, &[&str], usize); 13] = [
+        let stated: [(&str, &[&str], usize); 22] = [
             ("sheet 1, W", &["TRIED 2", "TRY 101 101 101 BREAKS 3", "TRY 101 101 102 VALID"], 2),
             (
                 "sheet 4, W and a rule 2,1,0,6",
@@ -164,6 +211,19 @@ mod tests {
                 2,
             ),
             ("64 people, 12 steps, 64 rules", &["TRIED 1", "PLAN 12"], 0),
+            ("skipped, W, step 10", &["TRIED 2", "TRY 101 101 BREAKS 3", "TRY 101 102 VALID", "PLAN 2"], 2),
+            ("skipped, W, steps 10 and 20", &["TRIED 1", "TRY 101 VALID", "PLAN 1", "30 101"], 1),
+            ("skipped, W, all steps", &["TRIED 1", "TRY VALID", "PLAN 0", "RULE 1 2 0 0"], 1),
+            ("skipped, W and 3,3,1,7, step 10", &["TRIED 16", "TRY 101 101 BREAKS 3", "TRY 101 102 BREAKS 4"], 16),
+            (
+                "skipped, rule 4,3,3,7 left with two",
+                &["TRIED 16", "TRY 101 101 101 DENIED 20", "TRY 101 101 102 DENIED 20"],
+                16,
+            ),
+            ("skipped, a full sheet, all steps", &["TRIED 1", "TRY VALID", "PLAN 0", "RULE 3 3 2 0"], 1),
+            ("skipped, all of 12 steps but the last", &["TRIED 1", "TRY 1001 VALID", "PLAN 1", "2012 1001"], 1),
+            ("1,000 plans, ten people, three of 12 steps left", &["TRIED 13", "TRY 1001 1001 1001 BREAKS 1"], 13),
+            ("1,024 plans, four people, five of 12 steps left", &["TRIED 28", "PLAN 5"], 0),
         ];
         let file = BY_TRIAL.text();
         for (name, first, trials) in stated {

@@ -1,15 +1,16 @@
-//! Jobs of full size under work, which are too large for the brute force.
+//! Jobs of full size, which are too large for the brute force: under work, and with skipped steps.
 
-use model::answers::{Call, MOST_CREW_BYTES};
-use model::builder::{lay, person, rule, step};
+use model::answers::{Call, MOST_CAP, MOST_CREW_BYTES};
+use model::builder::{lay, person, rule, skipping, step};
 use model::card::MOST_BYTES;
 use model::job::{Job, AT_MOST, BY_BENCH, BY_PERSON, MOST_PEOPLE, MOST_RULES, MOST_STEPS, SAME};
 use model::library::{open, run, sign};
-use model::plans::is_valid;
+use model::plans::{is_valid, plan_by};
 use model::random::Random;
 use model::recipe::practice_job;
+use model::shortened::shortened;
 use model::signing::Work;
-use sheet_tests::numbers::{GRANTED, REFUSED, SIGNED};
+use sheet_tests::numbers::{GRANTED, REFUSED, SIGNED, UNKNOWN};
 
 /// Every card that there may be: each person may do one step, the last one the last step. One rule binds: step 0 and the last
 /// are done at one bench.
@@ -82,9 +83,86 @@ fn full_size_jobs_are_granted_what_the_crew_call_finds() {
                 refused += 1;
             }
         }
-        let plan: Vec<usize> = work.signer.iter().map(|&signer| usize::from(signer) - 1).collect();
+        let plan = plan_by(&job, work.signer.map(|signer| usize::from(signer) - 1));
         assert!(is_valid(&job, &plan), "start {start}, {rules} rules");
         jobs += 1;
     }
     assert!(jobs >= 30 && granted == MOST_STEPS * jobs && refused > granted, "{jobs} {granted} {refused}");
+}
+
+/// Practice jobs of full size, some of their steps skipped: at least one of twelve remains.
+fn skipping_jobs() -> impl Iterator<Item = Job> {
+    let mut random = Random::new(7);
+    let sizes = (1..=40).flat_map(|start| [0, 4, 8, 12, 20, 64].map(|rules| (start, rules)));
+    sizes.map(move |(start, rules)| {
+        let order = random.order(MOST_STEPS);
+        let left = random.within(1, MOST_STEPS - 1);
+        skipping(practice_job(start, MOST_STEPS, MOST_PEOPLE, rules), order[left..].iter().map(|step| step - 1))
+    })
+}
+
+#[test]
+fn full_size_jobs_are_planned_as_the_sheets_without_their_skipped_steps() {
+    let (mut planned, mut refused) = (0, 0);
+    for job in skipping_jobs() {
+        for call in [Call::Crew, Call::Spare { cap: MOST_CAP }] {
+            let [found, expected] = [lay(&job), lay(&shortened(&job))].map(|sheet| {
+                let mut area = [0xA5; MOST_CREW_BYTES];
+                (run(call, &sheet.bytes, &mut area), area)
+            });
+            assert!(found == expected, "{call:?}, {job:?}");
+            match found.0 {
+                0 => planned += 1,
+                _ => refused += 1,
+            }
+        }
+    }
+    assert!(planned > 100 && refused > 100, "{planned} {refused}");
+}
+
+/// On both sheets some people in turn try to sign every step; a skipped one is not on the second, and unknown on both.
+#[test]
+fn full_size_jobs_are_signed_as_the_sheets_without_their_skipped_steps() {
+    let random = &mut Random::new(8);
+    let mut numbers = vec![];
+    for job in skipping_jobs() {
+        let sheets = [lay(&job), lay(&shortened(&job))];
+        let mut works = [Work::NEW, Work::NEW];
+        let opened = [0, 1].map(|at| open(&mut works[at], &sheets[at].bytes));
+        assert_eq!(opened[0], opened[1], "{job:?}");
+        if opened[0] != 0 {
+            continue;
+        }
+        for step in random.order(MOST_STEPS).into_iter().map(|step| step - 1) {
+            for person in random.order(MOST_PEOPLE).into_iter().take(6).map(|person| person - 1) {
+                let signed = works.each_mut().map(|work| sign(work, job.steps[step].tag, job.people[person].tag));
+                assert_eq!(signed[0], signed[1], "{job:?}");
+                assert!(!job.steps[step].skipped || signed[0] == UNKNOWN, "{job:?}");
+                numbers.push(signed[0]);
+            }
+        }
+        assert_eq!(
+            works[0],
+            Work { refusals: works[1].refusals, signer: works[1].signer, ..Work::holding(&sheets[0].bytes) }
+        );
+    }
+    for number in [GRANTED, UNKNOWN, SIGNED, REFUSED] {
+        assert!(numbers.iter().filter(|&&met| met == number).count() > 50, "{number}");
+    }
+}
+
+#[test]
+fn a_full_sheet_with_all_steps_skipped_needs_nobody() {
+    let sheet = lay(&skipping(practice_job(3, MOST_STEPS, MOST_PEOPLE, MOST_RULES), 0..MOST_STEPS)).bytes;
+    assert_eq!(sheet.len(), MOST_BYTES);
+    for call in [Call::Crew, Call::CrewByTrial] {
+        assert_eq!(run(call, &sheet, &mut []), 0);
+        let mut area = [0xA5; MOST_CREW_BYTES];
+        assert_eq!((run(call, &sheet, &mut area), area), (0, [0xA5; MOST_CREW_BYTES]));
+    }
+    let mut work = Work::NEW;
+    assert_eq!(open(&mut work, &sheet), 0);
+    assert_eq!(work, Work::holding(&sheet));
+    assert_eq!(sign(&mut work, 1, 100), UNKNOWN);
+    assert_eq!(work, Work { refusals: 1, ..Work::holding(&sheet) });
 }

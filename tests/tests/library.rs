@@ -1,7 +1,7 @@
-//! The library on the paper's sheets and on every damage to one byte of W.
+//! The library on the paper's sheets, on those with skipped steps, and on every damage to one byte of W.
 
 use model::answers::{answer, Call, SPARE_BYTES};
-use model::builder::sheet_w;
+use model::builder::{sheet_w, skipped_w};
 use model::library;
 use sheet_tests::calls;
 use std::thread;
@@ -21,11 +21,17 @@ fn the_papers_sheets_are_answered_as_stated() {
     }
 }
 
+/// W whole, with a skipped step, and with all steps skipped.
 #[test]
 fn every_damage_to_one_byte_of_w_is_answered_as_by_the_brute_force() {
-    let w = sheet_w().bytes;
+    for w in [sheet_w(), sheet_w().skip(6), skipped_w()] {
+        every_damage_is_answered(&w.bytes);
+    }
+}
+
+fn every_damage_is_answered(w: &[u8]) {
     for (at, value) in (0..w.len()).flat_map(|at| (0..=255).map(move |value| (at, value))) {
-        let mut sheet = w.clone();
+        let mut sheet = w.to_vec();
         sheet[at] = value;
         for (call, room) in [(Call::Crew, 24), (Call::CrewByTrial, 24), (Call::Spare { cap: 3 }, SPARE_BYTES)] {
             let mut area = filled(room);

@@ -1,7 +1,7 @@
-//! The library on jobs under work, by sheet W: a day, openings, damaged memory, copies and threads.
+//! The library on jobs under work, by sheet W: a day, skipped steps, openings, damaged memory, copies and threads.
 
 use model::answers::{Call, MOST_CREW_BYTES};
-use model::builder::{plain, sheet_w, shorter_w};
+use model::builder::{plain, sheet_w, shorter_w, skipped_w, Draft};
 use model::card::MOST_BYTES;
 use model::job::MOST_STEPS;
 use model::library::{open, refusals, run, sign};
@@ -10,18 +10,26 @@ use sheet_tests::calls;
 use sheet_tests::numbers::{GRANTED, REFUSED, SIGNED, UNKNOWN};
 use std::thread;
 
-fn w() -> Work {
+fn opened(sheet: Draft) -> Work {
     let mut work = Work::NEW;
-    assert_eq!(open(&mut work, &sheet_w().bytes), 0);
+    assert_eq!(open(&mut work, &sheet.bytes), 0);
     work
 }
 
-/// W with a signing and a refusal.
-fn used_w() -> Work {
-    let mut work = w();
+fn w() -> Work {
+    opened(sheet_w())
+}
+
+/// With a signing and a refusal.
+fn used(sheet: Draft) -> Work {
+    let mut work = opened(sheet);
     assert_eq!(sign(&mut work, 20, 101), GRANTED);
     assert_eq!(sign(&mut work, 20, 101), SIGNED);
     work
+}
+
+fn used_w() -> Work {
+    used(sheet_w())
 }
 
 /// Memory that no call has made.
@@ -58,6 +66,41 @@ fn a_day_on_w_goes_as_stated() {
 }
 
 #[test]
+fn a_day_on_w_with_a_skipped_step_goes_as_stated() {
+    let sheet = sheet_w().skip(5);
+    let mut work = opened(sheet.clone());
+    assert_eq!(work, Work::holding(&sheet.bytes));
+    for (step, person, number) in [
+        (10, 101, UNKNOWN),
+        (10, 103, UNKNOWN),
+        (10, 105, UNKNOWN),
+        (30, 104, REFUSED),
+        (30, 102, GRANTED),
+        (10, 102, UNKNOWN),
+        (20, 102, REFUSED),
+        (30, 103, SIGNED),
+        (20, 101, GRANTED),
+        (20, 101, SIGNED),
+        (10, 101, UNKNOWN),
+    ] {
+        assert_eq!(sign(&mut work, step, person), number, "step {step}, person {person}");
+    }
+    // The steps that remain stand one after the other.
+    assert_eq!(work, Work { refusals: 9, signer: [1, 2, 0, 0, 0, 0, 0, 0, 0, 0, 0, 0], ..Work::holding(&sheet.bytes) });
+}
+
+#[test]
+fn on_w_with_all_steps_skipped_every_step_is_unknown() {
+    let sheet = skipped_w().bytes;
+    let mut work = used_w();
+    assert_eq!(open(&mut work, &sheet), 0);
+    for (step, person) in [(10, 101), (20, 102), (30, 103), (40, 101), (0, 0)] {
+        assert_eq!(sign(&mut work, step, person), UNKNOWN, "step {step}, person {person}");
+    }
+    assert_eq!(work, Work { refusals: 5, ..Work::holding(&sheet) });
+}
+
+#[test]
 fn an_opening_gives_the_same_job_whatever_was_there() {
     let mut longer = Work::NEW;
     assert_eq!(open(&mut longer, &plain(64, 12, 64).bytes), 0);
@@ -84,9 +127,14 @@ fn an_opening_refuses_as_the_crew_call_does_and_leaves_every_byte() {
 
 #[test]
 fn every_damage_to_one_byte_of_w_is_opened_as_by_the_model() {
-    let w = sheet_w().bytes;
+    for w in [sheet_w(), sheet_w().skip(6)] {
+        every_damage_is_opened(&w.bytes);
+    }
+}
+
+fn every_damage_is_opened(w: &[u8]) {
     for (at, value) in (0..w.len()).flat_map(|at| (0..=255).map(move |value| (at, value))) {
-        let mut sheet = w.clone();
+        let mut sheet = w.to_vec();
         sheet[at] = value;
         let (mut found, mut expected) = (noise(), noise());
         let number = signing::open(&mut expected, &sheet).expect("W and its like are small");
@@ -97,7 +145,12 @@ fn every_damage_to_one_byte_of_w_is_opened_as_by_the_model() {
 
 #[test]
 fn every_damage_to_one_byte_held_is_signed_as_by_the_model() {
-    let work = used_w();
+    for work in [used_w(), used(sheet_w().skip(5))] {
+        every_damage_is_signed(&work);
+    }
+}
+
+fn every_damage_is_signed(work: &Work) {
     let length = work.sheet_len as usize;
     for (at, value) in (0..length).flat_map(|at| (0..=255).map(move |value| (at, value))) {
         let mut found = work.clone();

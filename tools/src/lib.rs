@@ -2,10 +2,11 @@
 //!
 //!   person 101 shop 1 bench 1 may 10 20 30
 //!   step 10
+//!   step 20 skipped
 //!   rule same bench 10 20
 //!   rule at-most 2 person 10 20 30
 //!
-//! Steps are named by their tags, levels are shop, bench and person, and # begins a comment.
+//! Steps are named by their tags, skipped ones too, levels are shop, bench and person, and # begins a comment.
 
 pub mod line;
 pub mod pack;

@@ -7,7 +7,7 @@ use std::str::SplitWhitespace;
 #[derive(Debug, PartialEq, Eq)]
 pub enum Line {
     Person { tag: u32, shop: u16, bench: u16, may: Vec<u32> },
-    Step { tag: u32 },
+    Step { tag: u32, skipped: bool },
     Rule { kind: u8, level: u8, limit: u8, steps: Vec<u32> },
 }
 
@@ -82,8 +82,12 @@ fn person(words: &mut Words) -> Result<Line, String> {
 
 fn step(words: &mut Words) -> Result<Line, String> {
     let tag = words.tag("the step's tag")?;
+    let skipped = !words.is_empty();
+    if skipped {
+        words.exact(words::SKIPPED)?;
+    }
     words.end()?;
-    Ok(Line::Step { tag })
+    Ok(Line::Step { tag, skipped })
 }
 
 fn rule(words: &mut Words) -> Result<Line, String> {
@@ -120,7 +124,9 @@ mod tests {
         assert_eq!(read("person 101 shop 1 bench 2 may 10 20 # first"), Ok(Some(person)));
         let idle = Line::Person { tag: 103, shop: 1, bench: 2, may: vec![] };
         assert_eq!(read("person 103 shop 1 bench 2"), Ok(Some(idle)));
-        assert_eq!(read("  step 4294967295"), Ok(Some(Line::Step { tag: u32::MAX })));
+        assert_eq!(read("  step 4294967295"), Ok(Some(Line::Step { tag: u32::MAX, skipped: false })));
+        assert_eq!(read("step 20 skipped # no crack"), Ok(Some(Line::Step { tag: 20, skipped: true })));
+        assert_eq!(read("step 20 # skipped"), Ok(Some(Line::Step { tag: 20, skipped: false })));
         let rule = Line::Rule { kind: AT_MOST, level: BY_PERSON, limit: 2, steps: vec![10, 20, 30] };
         assert_eq!(read("rule at-most 2 person 10 20 30"), Ok(Some(rule)));
         assert_eq!(read("# nothing"), Ok(None));
@@ -132,7 +138,9 @@ mod tests {
         assert_eq!(reason("worker 1"), "a line begins with person, step or rule, not 'worker'");
         assert_eq!(reason("step"), "the step's tag is missing");
         assert_eq!(reason("step 0"), "the step's tag is a number from 1 to 4294967295, not '0'");
-        assert_eq!(reason("step 1 2"), "nothing is wanted where '2' stands");
+        assert_eq!(reason("step 1 2"), "'skipped' is wanted where '2' stands");
+        assert_eq!(reason("step skipped"), "the step's tag is a number from 1 to 4294967295, not 'skipped'");
+        assert_eq!(reason("step 1 skipped 2"), "nothing is wanted where '2' stands");
         assert_eq!(reason("person 1 shop 65536 bench 1"), "the shop is a number from 1 to 65535, not '65536'");
         assert_eq!(reason("person 1 bench 1 shop 1"), "'shop' is wanted where 'bench' stands");
         assert_eq!(reason("rule same floor 1 2"), "a level is shop, bench or person, not 'floor'");

@@ -8,7 +8,7 @@ const USAGE: &str = "usage: sheet pack < TEXT > CARDS
        sheet show < CARDS > TEXT
 Lines of the text, in the order of the chains; # begins a comment:
   person TAG shop NUMBER bench NUMBER may STEP...
-  step TAG
+  step TAG [skipped]
   rule same | different LEVEL STEP STEP
   rule at-most | at-least LIMIT LEVEL STEP...
 A LEVEL is shop, bench or person, a STEP is a step's tag.";

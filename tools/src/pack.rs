@@ -41,12 +41,12 @@ fn mask(steps: &[Step], tags: &[u32]) -> Result<u16, String> {
     Ok(mask)
 }
 
-fn add_step(job: &mut Job, tag: u32) -> Result<(), String> {
+fn add_step(job: &mut Job, step: Step) -> Result<(), String> {
     room(job.steps.len(), MOST_STEPS, "steps")?;
-    if job.steps.iter().any(|step| step.tag == tag) {
-        return Err(format!("step {tag} is there already"));
+    if job.steps.iter().any(|other| other.tag == step.tag) {
+        return Err(format!("step {} is there already", step.tag));
     }
-    job.steps.push(Step { tag });
+    job.steps.push(step);
     Ok(())
 }
 
@@ -102,8 +102,8 @@ pub fn job(text: &str) -> Result<Job, Fault> {
         let Some(line) = line::read(text).map_err(at)? else {
             continue;
         };
-        if let Line::Step { tag } = line {
-            add_step(&mut job, tag).map_err(at)?;
+        if let Line::Step { tag, skipped } = line {
+            add_step(&mut job, Step { tag, skipped }).map_err(at)?;
         }
         lines.push((number, line));
     }
@@ -140,6 +140,7 @@ mod tests {
         assert_eq!(fault("person 1 shop 1 bench 1\n\n"), "line 2: the text ends without a step");
         assert_eq!(fault("person 1 shop 1 bench 1 may 5\nstep 10"), "line 1: there is no step 5");
         assert_eq!(fault("step 10\n# more\nstep 10"), "line 3: step 10 is there already");
+        assert_eq!(fault("step 10 skipped\nstep 10"), "line 2: step 10 is there already");
         let more = |line: &str| fault(&format!("{PEOPLE}{line}"));
         assert_eq!(more("person 1 shop 1 bench 1"), "line 4: person 1 is there already");
         assert_eq!(more("person 2 shop 2 bench 1"), "line 4: bench 1 is in shop 1 already");
@@ -147,6 +148,15 @@ mod tests {
         assert_eq!(more("rule same shop 10 10"), "line 4: step 10 is named twice");
         assert_eq!(more("rule at-most 1 shop 10"), "line 4: a rule names two steps or more, not 1");
         assert_eq!(more("rule at-most 3 shop 10 20"), "line 4: the limit 3 is above the 2 steps named");
+    }
+
+    #[test]
+    fn a_rule_is_measured_with_its_skipped_steps() {
+        let more = |line: &str| pack(&format!("{PEOPLE}step 30 skipped\n{line}")).map_err(|fault| fault.reason);
+        assert!(more("rule same shop 10 30").is_ok());
+        assert!(more("rule at-least 3 person 10 20 30").is_ok());
+        assert_eq!(more("rule same shop 10 20 30").unwrap_err(), "a rule 'same' names two steps, not 3");
+        assert_eq!(more("rule at-least 4 shop 10 20 30").unwrap_err(), "the limit 4 is above the 3 steps named");
     }
 
     #[test]

@@ -1,7 +1,7 @@
 //! From cards to text.
 
 use crate::words;
-use model::job::{has_limit, steps_of, Job, Person, Rule};
+use model::job::{has_limit, steps_of, Job, Person, Rule, Step};
 use model::reader::read;
 use model::refusal::Refusal;
 
@@ -16,6 +16,11 @@ fn person(job: &Job, person: &Person) -> String {
     format!("person {tag} shop {shop} bench {bench}{may}{}\n", tags(job, *permitted))
 }
 
+fn step(step: &Step) -> String {
+    let mark = if step.skipped { format!(" {}", words::SKIPPED) } else { String::new() };
+    format!("step {}{mark}\n", step.tag)
+}
+
 fn rule(job: &Job, rule: &Rule) -> String {
     let limit = if has_limit(rule.kind) { format!(" {}", rule.limit) } else { String::new() };
     let (kind, level) = (words::kind_word(rule.kind), words::level_word(rule.level));
@@ -24,7 +29,7 @@ fn rule(job: &Job, rule: &Rule) -> String {
 
 pub fn text(job: &Job) -> String {
     let people = job.people.iter().map(|one| person(job, one));
-    let steps = job.steps.iter().map(|step| format!("step {}\n", step.tag));
+    let steps = job.steps.iter().map(step);
     let rules = job.rules.iter().map(|one| rule(job, one));
     people.chain(steps).chain(rules).collect()
 }

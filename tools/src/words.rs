@@ -1,4 +1,4 @@
-//! The words for rule kinds and levels.
+//! The words for rule kinds and levels, and for a step that is skipped.
 
 use model::job::{AT_LEAST, AT_MOST, BY_BENCH, BY_PERSON, BY_SHOP, DIFFERENT, SAME};
 
@@ -7,6 +7,8 @@ type Named = (u8, &'static str);
 pub const KINDS: [Named; 4] = [(SAME, "same"), (DIFFERENT, "different"), (AT_MOST, "at-most"), (AT_LEAST, "at-least")];
 
 pub const LEVELS: [Named; 3] = [(BY_SHOP, "shop"), (BY_BENCH, "bench"), (BY_PERSON, "person")];
+
+pub const SKIPPED: &str = "skipped";
 
 fn number(named: &[Named], word: &str) -> Option<u8> {
     named.iter().find(|(_, known)| *known == word).map(|(number, _)| *number)

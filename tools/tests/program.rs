@@ -19,8 +19,8 @@ fn is_in_lines(text: &[u8]) -> bool {
 
 #[test]
 fn what_is_shown_ends_its_last_line() {
-    // The last line is a rule's, a step's, and a rule's again.
-    for sheet in [sheet_w(), one_by_one(1), shorter_w()] {
+    // The last line is a rule's, a step's, a skipped step's, and a rule's again.
+    for sheet in [sheet_w(), one_by_one(1), one_by_one(1).skip(2), shorter_w()] {
         let shown = run("show", &sheet.bytes);
         assert!(shown.status.success() && shown.stderr.is_empty(), "{shown:?}");
         assert!(is_in_lines(&shown.stdout), "{shown:?}");

@@ -1,6 +1,6 @@
 //! Text and cards, there and back.
 
-use model::builder::{lay, one_by_one, sheet_w, shorter_w, w_and, Draft};
+use model::builder::{lay, one_by_one, sheet_w, shorter_w, skipped_w, w_and, Draft};
 use model::garble::sample;
 use model::jobs::{good_job, laid};
 use model::random::Random;
@@ -8,7 +8,7 @@ use model::reader::read;
 use sheet::pack::pack;
 use sheet::show::{show, text};
 
-fn examples() -> [(&'static str, Draft); 8] {
+fn examples() -> [(&'static str, Draft); 10] {
     [
         (include_str!("../examples/w.txt"), sheet_w()),
         (include_str!("../examples/trial-3.txt"), sheet_w().word(3, 12, 0)),
@@ -18,11 +18,13 @@ fn examples() -> [(&'static str, Draft); 8] {
         (include_str!("../examples/trial-7.txt"), one_by_one(1)),
         (include_str!("../examples/trial-8.txt"), one_by_one(0)),
         (include_str!("../examples/trial-9.txt"), shorter_w()),
+        (include_str!("../examples/skipped.txt"), sheet_w().skip(5)),
+        (include_str!("../examples/all-skipped.txt"), skipped_w()),
     ]
 }
 
 #[test]
-fn the_examples_are_the_papers_sheets() {
+fn the_examples_pack_to_their_sheets() {
     for (text, sheet) in examples() {
         assert_eq!(pack(text), Ok(sheet.bytes), "{text}");
     }
@@ -40,12 +42,15 @@ fn the_examples_are_shown_as_they_are_written() {
 #[test]
 fn what_is_shown_packs_to_the_same_job() {
     let mut random = Random::new(9);
+    let mut skipped = 0;
     for _ in 0..2_000 {
         let job = good_job(&mut random);
+        skipped += job.steps.iter().filter(|step| step.skipped).count();
         let shown = show(&laid(&mut random, &job).bytes).expect("a good sheet");
         assert_eq!(shown, text(&job));
         assert_eq!(pack(&shown), Ok(lay(&job).bytes));
     }
+    assert!(skipped > 0);
 }
 
 #[test]

@@ -1,8 +1,9 @@
 //! The figures of two builds: the plain table, the highest ratios, and a line a sheet for the file.
 
-use super::{Beside, Times};
+use super::Beside;
 use crate::groups::PRACTICE;
 use crate::table::{field, figures, plan_word, spread, time};
+use crate::turns::{self, mean, Times};
 
 /// How many sheets of a family are named for their ratios.
 const MOST_NAMED: usize = 5;
@@ -18,20 +19,6 @@ fn family(one: &Beside) -> &str {
         return PRACTICE;
     }
     &one.group
-}
-
-/// The geometric mean of what both builds ended.
-fn mean(ratios: &[f64]) -> Option<f64> {
-    let logs: Vec<f64> = ratios.iter().filter(|ratio| ratio.is_normal()).map(|ratio| ratio.ln()).collect();
-    (!logs.is_empty()).then(|| (logs.iter().sum::<f64>() / logs.len() as f64).exp())
-}
-
-fn ratio(value: Option<f64>) -> String {
-    match value {
-        None => "-".to_string(),
-        Some(value) if value.is_infinite() => "late".to_string(),
-        Some(value) => format!("{value:.2}"),
-    }
 }
 
 /// Cells as wide as the names of their columns.
@@ -52,8 +39,8 @@ fn row(family: &str, (call, of): (&str, Column), all: &[&Beside]) -> String {
         all.len().to_string(),
         time(this.median),
         time(other.median),
-        ratio(median),
-        ratio(mean(&ratios)),
+        turns::text(median),
+        turns::text(mean(&ratios)),
         this.unfinished.to_string(),
         other.unfinished.to_string(),
     ])
@@ -67,7 +54,7 @@ fn highest(all: &[&Beside]) -> Vec<String> {
             let (this, other) = (figures([of(one).this].into_iter()), figures([of(one).other].into_iter()));
             if let Some(found) = of(one).ratio() {
                 let times = format!("{} to {} us", time(this.median), time(other.median));
-                named.push((found, format!("{} of {call}, {}: {times}", ratio(Some(found)), one.title)));
+                named.push((found, format!("{} of {call}, {}: {times}", turns::text(Some(found)), one.title)));
             }
         }
     }
@@ -115,12 +102,6 @@ mod tests {
             spare: Times { this: Some(4_000), other: Some(4_000) },
             differences: vec![],
         }
-    }
-
-    #[test]
-    fn a_late_call_is_not_in_the_mean() {
-        assert_eq!(mean(&[0.5, 2.0, 0.0, f64::INFINITY]), Some(1.0));
-        assert_eq!(mean(&[0.0]), None);
     }
 
     #[test]

@@ -4,6 +4,7 @@ mod kept;
 mod mutate;
 mod shape;
 
+use crate::asked::Asked;
 use crate::builds::Which;
 use crate::groups::{self, Group};
 use crate::hard;
@@ -92,7 +93,7 @@ struct Climb<'a> {
 impl Climb<'_> {
     /// A call that is ended counts as its limit: nothing is slower.
     fn time(&mut self, call: Call, job: &Job) -> io::Result<Duration> {
-        let called = self.worker.call(Which::This, call, &lay(job).bytes, self.order.limit)?;
+        let called = self.worker.call(Which::This, Asked::whole(call), &lay(job).bytes, self.order.limit)?;
         Ok(called.map_or(self.order.limit, |called| Duration::from_nanos(called.nanos)))
     }
 

@@ -1,4 +1,4 @@
-//! A job as a logic program: facts about the sheet, and the rules as counts.
+//! A job as a logic program: facts about the sheet, and the rules as counts. No step of the job is skipped.
 
 use model::job::{steps_of, Job, BY_BENCH, BY_PERSON, BY_SHOP, MOST_PEOPLE, MOST_STEPS};
 

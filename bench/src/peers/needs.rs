@@ -2,7 +2,7 @@
 //!
 //! There is a variable for each step and person permitted, one for each step and class of a level that a rule names, and
 //! for each rule that counts one for each class. The appendix has at-most rules for people only; here they are for any
-//! level, and at-least rules are done alike.
+//! level, and at-least rules are done alike. No step of the job is skipped.
 
 use model::job::{steps_of, Job, Rule, AT_MOST, BY_PERSON, DIFFERENT, SAME};
 use std::collections::BTreeMap;
@@ -147,8 +147,9 @@ mod tests {
     use super::*;
     use model::builder::job_w;
     use model::jobs::small_job;
-    use model::plans::{first_plan, is_valid};
+    use model::plans::{first_plan, is_valid, plan_by, Plan};
     use model::random::Random;
+    use model::shortened::shortened;
 
     /// How many of them are true.
     fn sum(of: &[Var], set: u64) -> usize {
@@ -173,14 +174,15 @@ mod tests {
         let mut random = Random::new(21);
         let mut both = [0, 0];
         for _ in 0..20_000 {
-            let needs_of = small_job(&mut random);
+            let needs_of = shortened(&small_job(&mut random));
             let needs = Needs::new(&needs_of);
             if needs.vars > 16 {
                 continue;
             }
             let met: Vec<u64> = (0..1u64 << needs.vars).map(|set| set << 1).collect();
             let met = met.into_iter().filter(|set| needs.all.iter().all(|need| is_met(need, *set)));
-            let plans: Vec<Vec<usize>> = met.map(|set| needs.plan(|var| set >> var & 1 == 1).unwrap()).collect();
+            let plan = |set: u64| plan_by(&needs_of, needs.plan(|var| set >> var & 1 == 1).unwrap());
+            let plans: Vec<Plan> = met.map(plan).collect();
             assert!(plans.iter().all(|plan| is_valid(&needs_of, plan)), "{needs_of:?}");
             assert_eq!(plans.iter().min().cloned(), first_plan(&needs_of, &[]), "{needs_of:?}");
             both[usize::from(plans.is_empty())] += 1;

@@ -5,7 +5,7 @@ use model::answers::{Call, MOST_CREW_BYTES};
 use model::builder::lay;
 use model::job::Job;
 use model::library;
-use model::plans::is_valid;
+use model::plans::{is_valid, plan_by};
 use model::random::Random;
 use model::signing::Work;
 use std::time::Duration;
@@ -46,9 +46,11 @@ fn shuffled(random: &mut Random, n: usize) -> Vec<usize> {
     random.order(n).into_iter().map(|k| k - 1).collect()
 }
 
-/// The people of a job whose every step is signed.
-fn plan(job: &Job, work: &Work) -> Option<Vec<usize>> {
-    work.signer[..job.steps.len()].iter().map(|&signer| usize::from(signer).checked_sub(1)).collect()
+/// Whether every step that remains is signed, and the signers are a valid plan.
+fn is_signed(job: &Job, work: &Work) -> bool {
+    let signers = &work.signer[..job.remaining().count()];
+    let people: Option<Vec<usize>> = signers.iter().map(|&signer| usize::from(signer).checked_sub(1)).collect();
+    people.is_some_and(|people| is_valid(job, &plan_by(job, people)))
 }
 
 /// Those who are permitted the step are tried until one is granted.
@@ -86,12 +88,12 @@ pub fn worked(job: &Job, order: Order, random: &mut Random) -> Worked {
     if [crew, exists, open] != [0; 3] {
         worked.differences.push("existence");
     }
-    let steps = job.steps.len();
-    let turns = if order == Order::Chain { (0..steps).collect() } else { shuffled(random, steps) };
-    for step in turns {
-        sign(job, step, random, &mut work, &mut worked);
+    let steps: Vec<usize> = job.remaining().collect();
+    let turns = if order == Order::Chain { (0..steps.len()).collect() } else { shuffled(random, steps.len()) };
+    for turn in turns {
+        sign(job, steps[turn], random, &mut work, &mut worked);
     }
-    if plan(job, &work).is_none_or(|plan| !is_valid(job, &plan)) {
+    if !is_signed(job, &work) {
         worked.differences.push("valid plan");
     }
     worked
@@ -100,16 +102,16 @@ pub fn worked(job: &Job, order: Order, random: &mut Random) -> Worked {
 #[cfg(test)]
 mod tests {
     use super::*;
-    use model::builder::{job_w, plain_job};
+    use model::builder::{job_w, plain_job, skipping};
     use model::job::MOST_STEPS;
 
     #[test]
     fn a_job_is_signed_to_its_end_in_both_orders() {
-        for job in [job_w(), plain_job(3, MOST_STEPS, 2)] {
+        for job in [job_w(), plain_job(3, MOST_STEPS, 2), skipping(plain_job(3, MOST_STEPS, 2), [0, 5])] {
             assert!(has_plan(&job));
             for order in [Order::Chain, Order::Random] {
                 let worked = worked(&job, order, &mut Random::new(3));
-                assert_eq!((worked.granted.len(), worked.differences), (job.steps.len(), vec![]));
+                assert_eq!((worked.granted.len(), worked.differences), (job.remaining().count(), vec![]));
             }
         }
     }

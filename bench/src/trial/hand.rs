@@ -58,6 +58,7 @@ pub fn try_every(problem: &Problem) -> Tried {
 mod tests {
     use super::*;
     use model::jobs::{lopsided_job, small_job};
+    use model::plans::plan_by;
     use model::random::Random;
     use model::trial;
 
@@ -68,7 +69,7 @@ mod tests {
             let job = if k % 8 == 0 { lopsided_job(&mut random) } else { small_job(&mut random) };
             let (found, wanted) = (try_every(&Problem::new(&job)), trial::try_every(&job).expect("a small job"));
             assert_eq!(u128::from(found.plans), wanted.plans);
-            assert_eq!(found.plan.map(|plan| plan[..job.steps.len()].to_vec()), wanted.crew);
+            assert_eq!(found.plan.map(|plan| plan_by(&job, plan)), wanted.crew);
         }
     }
 }

@@ -67,7 +67,7 @@ pub fn measured(job: &Job) -> Measured {
 #[cfg(test)]
 mod tests {
     use super::*;
-    use model::builder::{job_w, rule};
+    use model::builder::{job_w, rule, skipping};
     use model::job::{AT_MOST, BY_PERSON};
 
     #[test]
@@ -78,5 +78,7 @@ mod tests {
         job.rules.push(rule(AT_MOST, BY_PERSON, 1, 7));
         let none = measured(&job);
         assert_eq!((none.has_plan, none.tried, none.differences), (false, 64, vec![]));
+        let left = measured(&skipping(job, [0]));
+        assert_eq!((left.has_plan, left.tried, left.differences), (false, 16, vec![]));
     }
 }

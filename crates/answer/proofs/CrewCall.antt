@@ -9,7 +9,7 @@ use denote.Enum.Declared.{tagOf}
 use types.Run.{OneOf}
 use Rattle.card.specs.Refusals.{shortFault}
 use Rattle.sheet.proofs.Reading.{the-type}
-use Rattle.sheet.specs.Answer.{sheetOf}
+use Rattle.remaining.specs.Remaining.{remainingOf}
 use Rattle.answer.specs.Number.{numberOf}
 use Rattle.sheet.specs.Readable.{ReadableJob}
 use Rattle.sheet.specs.declared.SheetJob as sheet
@@ -32,8 +32,8 @@ Returns s buffer n out = (n ≡ crewAnswer s buffer .number) × (out ≡ crewAns
 returns-outcome : (s buffer : List ℕ) (o : Outcome) → crewAnswer s buffer ≡ o → Returns s buffer (o .number) (o .bytes)
 returns-outcome s buffer o e = (sym (ap (λ (x : Outcome). x .number) e), sym (ap (λ (x : Outcome). x .bytes) e))
 
-module _ (s : List ℕ) (a : Sheet) (e : a ≡ sheetOf s) where
-  read-as : (r : Reading) → a .reading ≡ r → sheetOf s .reading ≡ r
+module _ (s : List ℕ) (a : Sheet) (e : a ≡ remainingOf s) where
+  read-as : (r : Reading) → a .reading ≡ r → remainingOf s .reading ≡ r
   read-as r d = sym (ap (λ (x : Sheet). x .reading) e) ∙ d
 
   pub returns-refusal : (buffer : List ℕ) → OneOf (1 ∷ []) (tagOf the-type (a .reading)) → (n : ℕ) → n ≡ numberOf (a .reading) → Returns s buffer n buffer

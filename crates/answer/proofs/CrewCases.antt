@@ -6,10 +6,11 @@ use Prim.Native.Nat.{ℕ, zero, suc, _*_, _<_, _≤_}
 use native.Mathlib.Omega.{arith}
 use lib.ListN.{length, getD, drop}
 use borrow.Author.Tests.{lt-ltb, le-ltb}
-use Rattle.sheet.specs.Answer.{sheetOf}
+use Rattle.remaining.specs.Remaining.{remainingOf}
 use Rattle.sheet.specs.declared.SheetJob as sheet
 use Rattle.sheet.specs.declared.Reading.the-variants.{Readable, Refused}
-use Rattle.answer.proofs.WasRead.{read-fault, was-job}
+use Rattle.remaining.proofs.Laws.{read-job-fault}
+use Rattle.answer.proofs.WasRead.{was-job}
 use Rattle.workflow.specs.First.{found, nothing, firstPlan, foundAs, listOf, planOf}
 use Rattle.workflow.proofs.Lists.{planOf-listOf}
 use Rattle.instance.specs.Instance.{instanceOf, mayOf, crewTags}
@@ -20,15 +21,15 @@ use Rattle.answer.specs.Crew.{crewAnswer, crewRead, crewOf, planned}
 
 module _ (s buffer : List ℕ) where
   -- a sheet that was read
-  pub crew-read : (people steps rules : ℕ) → sheetOf s .reading ≡ Readable people steps rules → crewAnswer s buffer ≡ crewOf people steps rules (sheetOf s .job) buffer
+  pub crew-read : (people steps rules : ℕ) → remainingOf s .reading ≡ Readable people steps rules → crewAnswer s buffer ≡ crewOf people steps rules (remainingOf s .job) buffer
   unfolding crewRead
   crew-read people steps rules e =
-      was-job s (sheetOf s) refl people steps rules e (λ (p n r : ℕ) (j : sheet.SheetJob). crewOf p n r j buffer) (crewRead s buffer) (λ p t r. refl)
+      was-job s (remainingOf s) refl people steps rules e (λ (p n r : ℕ) (j : sheet.SheetJob). crewOf p n r j buffer) (crewRead s buffer) (λ p t r. refl)
 
   -- a sheet that was refused
-  pub crew-refused : (f c : ℕ) → sheetOf s .reading ≡ Refused f c → crewAnswer s buffer ≡ refused f c buffer
+  pub crew-refused : (f c : ℕ) → remainingOf s .reading ≡ Refused f c → crewAnswer s buffer ≡ refused f c buffer
   unfolding crewRead
-  crew-refused f c e = ap (crewRead s buffer) (read-fault s f c e)
+  crew-refused f c e = ap (crewRead s buffer) (read-job-fault s f c e)
 
 -- the cases of a job with these counts
 module _ (people steps rules : ℕ) (j : sheet.SheetJob) (buffer : List ℕ) where

@@ -4,7 +4,7 @@ use mathlib.Core.List.{List, _++_}
 use Prim.Native.Nat.{ℕ, _*_}
 use lib.Dec.{ltb}
 use lib.ListN.{length, drop}
-use Rattle.sheet.specs.Answer.{jobOf}
+use Rattle.remaining.specs.Remaining.{stepsLeft, jobLeft}
 use Rattle.sheet.specs.Read.{Read, job, fault, readSheet}
 use Rattle.sheet.specs.declared.SheetJob as sheet
 use Rattle.workflow.specs.First.{Found, found, nothing, firstPlan}
@@ -24,9 +24,10 @@ crewOf people steps rules j buffer =
     cond (ltb (length buffer) (8 * steps)) (refused shortFault 0 buffer)
     (planned j steps buffer (firstPlan (instanceOf people steps rules j) (mayOf j)))
 
--- of what was read: "A refusal of the reader is passed up with its card."
+-- of what was read: "Plan, crew bytes .. and buffer length cover the steps that remain." "A refusal of the reader is passed up with its card."
 unfoldable pub crewRead : List ℕ → List ℕ → Read → Outcome
-crewRead s buffer (job people steps rules) = crewOf (length people) (length steps) (length rules) (jobOf s people steps rules) buffer
+crewRead s buffer (job people steps rules) =
+    crewOf (length people) (length (stepsLeft s steps)) (length rules) (jobLeft s people steps rules) buffer
 crewRead s buffer (fault f c) = refused f c buffer
 
 -- the crew call on a sheet and a buffer

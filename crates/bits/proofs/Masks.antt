@@ -10,7 +10,7 @@ use lib.Count.{ones, trailingZeros}
 use lib.Dec.{lit<, ltb, eqb}
 use lib.ListN.{getD}
 use lib.Pow.{pow-pos, shl-exact}
-use borrow.Author.Tests.{eqb-true, eqb-false}
+use borrow.Author.Tests.{eqb-true, eqb-false, ltb-true, ltb-false}
 use Rattle.bits.specs.Below.{count}
 use Rattle.bits.specs.Word.{hasBit}
 use Rattle.bits.specs.Set.{unlike, Added, Removed, Lowest, FirstAndRest, Mask, Sifted, LeastKey}
@@ -183,3 +183,15 @@ module _ (key : List ℕ) (m : ℕ) where
 
   pub least-all : {left i : ℕ} → LeastKey key m left i → left ≡ 0 → LeastKey key m 0 i
   least-all {left} {i} w e = subst (λ (x : ℕ). LeastKey key m x i) e w
+
+-- a set without elements from n on has as many below any larger bound
+pub size-below : (n m x : ℕ) → n ≤ m → x < 2 ^ n → count m (hasBit x) ≡ count n (hasBit x)
+size-below n m x l h =
+    let e : m ≡ m - n + n = omega arith in
+    ap (λ (k : ℕ). count k (hasBit x)) e ∙ count-cut n (m - n) (hasBit x) (λ s t. has-below n x s h t)
+
+-- so it has as many below any two bounds that it keeps to
+pub size-same : (n m x : ℕ) → x < 2 ^ n → x < 2 ^ m → count n (hasBit x) ≡ count m (hasBit x)
+size-same n m x a b =
+    by-cases (ltb m n) (λ t. size-below m n x (let l = ltb-true m n t in omega arith) b)
+    (λ t. sym (size-below n m x (ltb-false m n t) a))

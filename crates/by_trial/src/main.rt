@@ -20,9 +20,9 @@ use listing::text;
 use listing::write_plan;
 use listing::write_refusal;
 use listing::write_rules;
+use remaining::read_job;
 use sheet::Reading;
 use sheet::SheetJob;
-use sheet::read_sheet;
 
 // What is wrong with a plan: the tag of the first step that its person is not permitted, or the first rule that it breaks, counted
 // from 1 along the chain.
@@ -74,7 +74,7 @@ fn write_trials(job: SheetJob, people: usize, steps: usize, rules: usize, tried:
 // The answer to a sheet: a refusal of the reader; or how many plans were tried, those plans where the sheet has few, and then the
 // first valid plan and the count of each rule for it, or that there is none.
 fn write_answer(sheet: &[u8]) {
-    let read = read_sheet(sheet);
+    let read = read_job(sheet);
     let reading = read.reading;
     let Reading::Readable {
         people,

@@ -60,10 +60,14 @@ personOk s c =
     && onlyBelow 12 (permittedOf s c)
     && eqb (cardWord s c 14) 0
 
+-- "Byte 1 of a step card may be 1, skipped."
+abbrev pub skippedOf : List ℕ → ℕ → ℕ
+skippedOf s c = cardByte s c 1
+
 -- "Step: bytes 4-7 tag, not zero."
 unfoldable pub stepOk : List ℕ → ℕ → Bool
 stepOk s c =
-    eqb (cardByte s c 1) 0
+    leb (skippedOf s c) 1
     && nonzero (tagOf s c)
     && eqb (cardLong s c 8) 0
     && eqb (cardLong s c 12) 0

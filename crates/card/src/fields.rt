@@ -45,7 +45,7 @@ fn step_ok(s: &[u8], card: usize) -> bool
     requires { ⌜ 16 * card + 16 ≤ length (now s) ⌝ }
     ensures { λ r. ⌜ r ≡ stepOk (now (s .entry)) card ⌝ }
 {
-    (byte(s, card, 1) == 0)
+    (byte(s, card, place::SKIPPED) <= 1)
         & (long(s, card, place::TAG) != 0)
         & (long(s, card, 8) == 0)
         & (long(s, card, 12) == 0)

@@ -22,6 +22,9 @@ pub const BENCH: usize = 10;
 
 pub const PERMITTED: usize = 12;
 
+// On a step.
+pub const SKIPPED: usize = 1;
+
 // On a rule.
 pub const RULE: usize = 1;
 

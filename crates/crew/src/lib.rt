@@ -10,9 +10,9 @@ use answer::returned;
 use card::refusal::SHORT_FAULT;
 use first::Planned;
 use first::first_plan;
+use remaining::read_job;
 use sheet::Reading;
 use sheet::SheetJob;
-use sheet::read_sheet;
 use tables::may_masks;
 use tables::pose;
 
@@ -29,7 +29,7 @@ pub fn plan_job(job: SheetJob, people: usize, steps: usize, rules: usize) -> Pla
 pub fn crew(sheet: &[u8], buffer: &mut [u8]) -> u32
     ensures { λ r. ⌜ (r ≡ crewAnswer (now (sheet .entry)) (now (buffer .entry)) .number) × (now (buffer .exit) ≡ crewAnswer (now (sheet .entry)) (now (buffer .entry)) .bytes) ⌝ }
 {
-    let read = read_sheet(sheet);
+    let read = read_job(sheet);
     let reading = read.reading;
     let Reading::Readable {
         people,

@@ -1,14 +1,17 @@
 -- A plan is valid exactly where no step is denied and no rule is broken. Assumes nothing.
-use mathlib.Core.Bool.{Bool, not}
-use mathlib.Core.Path.{_≡_, sym, _∙_}
-use Prim.Native.Nat.{ℕ, zero, suc, _<_, _≤_}
+use mathlib.Core.Bool.{Bool, true, false, not, _||_}
+use mathlib.Core.Logic.{_⊎_, inl, inr}
+use mathlib.Core.Path.{_≡_, refl, sym, _∙_}
+use Prim.Native.Nat.{ℕ, zero, suc, _<_, _≤_, min}
 use native.Mathlib.Omega.{arith}
-use lib.Dec.{eqb, leb}
-use borrow.Author.Tests.{eqb-true, eqb-false, leb-true, leb-false, not-true, not-false}
+use lib.Dec.{eqb, leb, ltb}
+use borrow.Author.Tests.{eqb-true, eqb-false, leb-true, leb-false, ltb-true, ltb-false, not-true, not-false}
+use Rattle.bits.specs.Below.{count}
 use Rattle.bits.specs.Says.{Says}
 use Rattle.bits.proofs.Below.{by-cases, true-false, first-le, first-has, first-none}
 use Rattle.bits.proofs.Says.{says-of, says-true, says-false}
-use Rattle.workflow.specs.Problem.{Job, Kind, May, Plan, OfPeople, Asks, Valid, classCount, met, ruleOf}
+use Rattle.workflow.specs.Problem.{Job, Kind, May, Plan, OfPeople, Valid, classCount, met, ruleOf}
+use Rattle.workflow.specs.Skipped.{AsksLeft}
 use Rattle.workflow.specs.Numbered.{kindIn}
 use Rattle.exhaustive.specs.Trial.{deniedIn, brokenIn}
 use Rattle.workflow.proofs.Rules.{met-asks}
@@ -22,34 +25,61 @@ says-eq a b = says-of _ _ (eqb-true a b) (eqb-false a b)
 says-le : (a b : ℕ) → Says (leb a b) (a ≤ b)
 says-le a b = says-of _ _ (leb-true a b) (λ f l. omega (arith, leb-false a b f))
 
-module _ (limit count : ℕ) where
-  pub asks-one : (kind : ℕ) → kind ≤ 1 → Says (eqb count 1) (Asks (kindIn kind) limit count)
-  asks-one zero l = says-eq count 1
-  asks-one (suc zero) l = says-eq count 1
+says-lt : (a b : ℕ) → Says (ltb a b) (a < b)
+says-lt a b = says-of _ _ (ltb-true a b) (λ f l. omega (arith, ltb-false a b f))
+
+-- one or the other
+says-or : (P Q : Type 0) (a b : Bool) → Says a P → Says b Q → Says (a || b) (P ⊎ Q)
+says-or P Q a b p q =
+    by-cases a (λ t. rw t (says-of true (P ⊎ Q) (λ e. inl (says-true a P p t)) (λ e z. true-false refl e)))
+    (λ t. by-cases b
+    (λ u. rw (t, u) (says-of true (P ⊎ Q) (λ e. inr (says-true b Q q u)) (λ e z. true-false refl e)))
+    (λ u. rw (t, u) (says-of false (P ⊎ Q) (λ e. true-false e refl) (λ e. elim [ inl x ↦ says-false a P p t x | inr x ↦ says-false b Q q u x ]))))
+
+-- the smaller of two limits is reached where one of them is
+says-smaller : (limit left count : ℕ) → Says (leb limit count || leb left count) (min limit left ≤ count)
+says-smaller limit left count =
+    let s = says-or (limit ≤ count) (left ≤ count) (leb limit count) (leb left count) (says-le limit count) (says-le left count) in
+    says-of _ _
+    (λ t. reached (says-true (leb limit count || leb left count) ((limit ≤ count) ⊎ (left ≤ count)) s t))
+    (λ f l. says-false (leb limit count || leb left count) ((limit ≤ count) ⊎ (left ≤ count)) s f (which l))
+  where
+    reached : (limit ≤ count) ⊎ (left ≤ count) → min limit left ≤ count
+    reached (inl a) = omega arith
+    reached (inr a) = omega arith
+
+    which : min limit left ≤ count → (limit ≤ count) ⊎ (left ≤ count)
+    which l = by-cases (leb limit left) (λ t. inl (let z = leb-true limit left t in omega arith)) (λ t. inr (let z = leb-false limit left t in omega arith))
+
+module _ (limit left count : ℕ) where
+  pub asks-one : (kind : ℕ) → kind ≤ 1 → Says (ltb left 2 || eqb count 1) (AsksLeft (kindIn kind) limit left count)
+  asks-one zero l = says-or (left < 2) (count ≡ 1) (ltb left 2) (eqb count 1) (says-lt left 2) (says-eq count 1)
+  asks-one (suc zero) l = says-or (left < 2) (count ≡ 1) (ltb left 2) (eqb count 1) (says-lt left 2) (says-eq count 1)
   asks-one (suc (suc n)) l = absurd (omega arith)
 
-  pub asks-two : (kind : ℕ) → kind ≡ 2 → Says (eqb count 2) (Asks (kindIn kind) limit count)
-  asks-two kind e = rw e (says-eq count 2)
+  pub asks-two : (kind : ℕ) → kind ≡ 2 → Says (ltb left 2 || eqb count 2) (AsksLeft (kindIn kind) limit left count)
+  asks-two kind e = rw e (says-or (left < 2) (count ≡ 2) (ltb left 2) (eqb count 2) (says-lt left 2) (says-eq count 2))
 
-  pub asks-most : (kind : ℕ) → kind ≡ 3 → Says (leb count limit) (Asks (kindIn kind) limit count)
+  pub asks-most : (kind : ℕ) → kind ≡ 3 → Says (leb count limit) (AsksLeft (kindIn kind) limit left count)
   asks-most kind e = rw e (says-le count limit)
 
-  pub asks-least : (kind : ℕ) → 4 ≤ kind → Says (leb limit count) (Asks (kindIn kind) limit count)
+  pub asks-least : (kind : ℕ) → 4 ≤ kind → Says (leb limit count || leb left count) (AsksLeft (kindIn kind) limit left count)
   asks-least zero l = absurd (omega arith)
   asks-least (suc zero) l = absurd (omega arith)
   asks-least (suc (suc zero)) l = absurd (omega arith)
   asks-least (suc (suc (suc zero))) l = absurd (omega arith)
-  asks-least (suc (suc (suc (suc n)))) l = says-le limit count
+  asks-least (suc (suc (suc (suc n)))) l = says-smaller limit left count
 
 -- what was said of a rule's count is whether the plan meets the rule
-pub said-met : (j : Job) (kind : Kind) (level limit : ℕ) (scope : ℕ → Bool) (π : Plan) (count : ℕ) (b : Bool)
-    → count ≡ classCount j (ruleOf (j .steps) kind level limit scope) π → Says b (Asks kind limit count) → b ≡ met j (ruleOf (j .steps) kind level limit scope) π
-said-met j kind level limit scope π count b e said =
+pub said-met : (j : Job) (kind : Kind) (level limit : ℕ) (scope : ℕ → Bool) (π : Plan) (left number : ℕ) (b : Bool)
+    → left ≡ count (j .steps) scope → number ≡ classCount j (ruleOf (j .steps) kind level limit scope) π
+    → Says b (AsksLeft kind limit left number) → b ≡ met j (ruleOf (j .steps) kind level limit scope) π
+said-met j kind level limit scope π left number b d e said =
     by-cases (met j (ruleOf (j .steps) kind level limit scope) π)
     (λ t. by-cases b (λ u. u ∙ sym t)
-    (λ u. absurd (says-false b _ said u (rw e (met-asks j level limit scope π kind .0 (met-sound j _ π t))))))
+    (λ u. absurd (says-false b _ said u (rw (d, e) (met-asks j level limit scope π kind .0 (met-sound j _ π t))))))
     (λ t. by-cases b
-    (λ u. true-false (met-complete j _ π (met-asks j level limit scope π kind .1 (let a = says-true b _ said u in rw (sym e) a))) t)
+    (λ u. true-false (met-complete j _ π (met-asks j level limit scope π kind .1 (let a = says-true b _ said u in rw (sym d, sym e) a))) t)
     (λ u. u ∙ sym t))
 
 -- ---- the first step denied, and the first rule broken

@@ -13,9 +13,9 @@ use bits::sizes::MOST_STEPS;
 use bits::sizes::Plan;
 use card::refusal::SHORT_FAULT;
 use plans::next_plan;
+use remaining::read_job;
 use sheet::Reading;
 use sheet::SheetJob;
-use sheet::read_sheet;
 use valid::is_valid;
 
 pub mod plans;
@@ -71,7 +71,7 @@ pub fn try_every(job: SheetJob, people: usize, steps: usize, rules: usize) -> Tr
 pub fn crew_by_trial(sheet: &[u8], buffer: &mut [u8]) -> u32
     ensures { λ r. ⌜ (r ≡ crewAnswer (now (sheet .entry)) (now (buffer .entry)) .number) × (now (buffer .exit) ≡ crewAnswer (now (sheet .entry)) (now (buffer .entry)) .bytes) ⌝ }
 {
-    let read = read_sheet(sheet);
+    let read = read_job(sheet);
     let reading = read.reading;
     let Reading::Readable {
         people,

@@ -10,7 +10,8 @@ ghost use lib.ListN.{length, getD};
 ghost use Rattle.bits.specs.Says.{Says};
 ghost use Rattle.bits.specs.Word.{hasBit};
 ghost use Rattle.sheet.specs.Readable.{ReadableJob};
-ghost use Rattle.workflow.specs.Problem.{Asks, OfPeople, Valid};
+ghost use Rattle.workflow.specs.Problem.{OfPeople, Valid};
+ghost use Rattle.workflow.specs.Skipped.{AsksLeft};
 ghost use Rattle.workflow.specs.First.{planOf};
 ghost use Rattle.workflow.specs.Numbered.{kindIn};
 ghost use Rattle.instance.specs.Instance.{instanceOf, mayOf};
@@ -30,15 +31,17 @@ pub fn first_denied(permitted: &PersonWords, steps: usize, plan: &Plan) -> usize
     steps
 }
 
-// Whether a rule of a kind and a limit is met by a count. A readable sheet has the kinds 1 to 4; the arms take in all numbers.
-fn is_met(kind: u8, limit: u8, count: usize) -> bool
-    ensures { λ r. ⌜ Says r (Asks (kindIn kind) limit count) ⌝ }
+// Whether a rule of a kind and a limit is met by a count over so many steps left in its scope. A readable sheet has the kinds 1 to
+// 4; the arms take in all numbers.
+fn is_met(kind: u8, limit: u8, left: usize, count: usize) -> bool
+    ensures { λ r. ⌜ Says r (AsksLeft (kindIn kind) limit left count) ⌝ }
 {
     match kind {
-        0..=1 => count == 1,
-        2 => count == 2,
+        0..=1 => (left < 2) | (count == 1),
+        2 => (left < 2) | (count == 2),
         3 => count <= limit as usize,
-        _ => count >= limit as usize,
+        // The smaller of two limits is reached where one of them is.
+        _ => (count >= limit as usize) | (count >= left),
     }
 }
 
@@ -53,7 +56,8 @@ pub fn first_broken(job: SheetJob, rules: usize, plan: &Plan) -> usize
     let scope = job.rule_scope;
     for i in 0..rules {
         let count = rule_count(&job.shop, &job.bench, level[i], scope[i], plan);
-        if !is_met(kind[i], limit[i], count) {
+        let left = small::size(scope[i]);
+        if !is_met(kind[i], limit[i], left, count) {
             return i;
         }
     }

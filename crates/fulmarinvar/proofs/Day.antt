@@ -1,13 +1,14 @@
 -- The day goes as stated, computed from the sheet's bytes. Assumes nothing.
 use mathlib.Core.List.{List, [], _∷_}
 use mathlib.Core.Path.{refl}
-use Prim.Native.Nat.{ℕ}
 use Rattle.bits.specs.Below.{all, any, count, first}
 use Rattle.bits.specs.Member.{member}
 use Rattle.card.specs.Fields.{headerOk, personOk, stepOk, ruleOk, limitOk, fieldsOk}
 use Rattle.chain.specs.Walk.{walk, firstFault}
 use Rattle.sheet.specs.Read.{readSheet, readPeople, peopleRead, stepsRead, checked, firstClash, firstLate, firstLoose}
 use Rattle.sheet.specs.Answer.{jobOf, table}
+use Rattle.remaining.specs.Kept.{keptBelow, gather}
+use Rattle.remaining.specs.Remaining.{jobOver}
 use Rattle.workflow.specs.Problem.{opens, distinct, authorisedTest, eligibleTest, valid}
 use Rattle.workflow.specs.First.{firstPlan, firstOf, tryAll}
 use Rattle.signing.specs.Open.{ifPlan, openRead}
@@ -24,7 +25,7 @@ returned-history (signing a b n ∷ h) r = (after h, returned-history h (r .1), 
 
 pub day-goes : DayGoes
 unfolding all any count first headerOk personOk stepOk ruleOk limitOk fieldsOk walk member firstFault readSheet readPeople peopleRead stepsRead checked firstClash firstLate
-    firstLoose jobOf table opens distinct authorisedTest eligibleTest valid firstPlan firstOf tryAll ifPlan openRead placeOf decided signOf signRead held opened
+    firstLoose jobOf table keptBelow gather jobOver opens distinct authorisedTest eligibleTest valid firstPlan firstOf tryAll ifPlan openRead placeOf decided signOf signRead held opened
 day-goes =
     record {
       history = returned-history day (refl, (refl, (refl, (refl, (refl, (refl, (refl, (refl, (refl, tt)))))))));

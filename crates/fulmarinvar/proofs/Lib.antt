@@ -13,3 +13,4 @@ pub mod Stands
 pub mod OpenDemand
 pub mod SignDemand
 pub mod ReadBack
+pub mod Skipped

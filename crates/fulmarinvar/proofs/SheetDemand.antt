@@ -1,18 +1,21 @@
 -- What a readable sheet is, and that its job has what stands on its cards. Assumes nothing.
-use mathlib.Core.Path.{refl, sym, _∙_, ap, subst}
+use mathlib.Core.Path.{sym, _∙_, subst}
 use Prim.Native.Nat.{ℕ, _<_}
 use native.Mathlib.Omega.{arith}
-use lib.ListN.{length}
-use Rattle.bits.specs.Word.{hasBit}
-use Rattle.card.specs.Fields.{tagOf, shopOf, benchOf, permittedOf, ruleKindOf, levelOf, limitOf, scopeOf}
+use Rattle.card.specs.Fields.{tagOf, shopOf, benchOf}
 use Rattle.sheet.specs.Answer.{jobOf}
 use Rattle.sheet.specs.Faults.{cardsIn}
 use Rattle.sheet.proofs.Fill.{getD-table}
+use Rattle.sheet.proofs.InOrder.{step-in-order}
 use Rattle.sheet.proofs.NoFault.{readable-no-fault, no-fault-readable}
 use Rattle.sheet.proofs.Chains.{chains}
 use Rattle.sheet.proofs.Passes.{sheet-passes}
-use Rattle.sheet.proofs.Readable.{readable-job}
-use Rattle.instance.proofs.Laws.{instance-nested, instance-fits}
+use Rattle.sheet.proofs.Readable.{readable-job, step-card}
+use Rattle.remaining.proofs.KeptLaws.{kept-below, kept-remains, kept-ordered, kept-every}
+use Rattle.remaining.proofs.Laws.{steps-left-length}
+use Rattle.remaining.specs.Remaining.{skippedAt}
+use lib.ListN.{length, getD}
+use Rattle.instance.proofs.Marked.{marked-fits}
 use Rattle.fulmarinvar.specs.Demands as demands
 
 pub readable-exactly : demands.ReadableExactly
@@ -25,20 +28,26 @@ jobs-of-cards s people steps rules e =
     let r = readable-job s people steps rules (cardsIn s) w in
     record {
       chains = chains s (cardsIn s) people steps rules w;
-      shop = λ p l. getD-table 64 (shopOf s) people p l;
-      bench = λ p l. getD-table 64 (benchOf s) people p l;
-      person = λ p l. refl;
-      permitted = λ t p l. ap (λ (x : ℕ). hasBit x t) (getD-table 64 (permittedOf s) people p l);
       person-tag = λ p l. subst (λ (x : ℕ). 0 < x) (getD-table 64 (tagOf s) people p l) (r .person p l .tag);
       step-tag = λ t l. subst (λ (x : ℕ). 0 < x) (getD-table 12 (tagOf s) steps t l) (r .step-tag t l);
       person-tags = λ p q l m d.
           r .person-tags p q l m (getD-table 64 (tagOf s) people p (omega arith) ∙ d ∙ sym (getD-table 64 (tagOf s) people q m));
       step-tags = λ t u l m d.
           r .step-tags t u l m (getD-table 12 (tagOf s) steps t (omega arith) ∙ d ∙ sym (getD-table 12 (tagOf s) steps u m));
-      rule = λ i l.
-          rw (getD-table 64 (ruleKindOf s) rules i l, getD-table 64 (levelOf s) rules i l, getD-table 64 (limitOf s) rules i l, getD-table 64 (scopeOf s) rules i l) refl;
-      fits = λ i l.
-          let h = instance-fits (length people) (length steps) (length rules) (jobOf s people steps rules) r i l in
-          rw (getD-table 64 (ruleKindOf s) rules i l, getD-table 64 (limitOf s) rules i l, getD-table 64 (scopeOf s) rules i l) at h;
-      nested = instance-nested (length people) (length steps) (length rules) (jobOf s people steps rules) r;
+      marked = λ t l. step-in-order s (getD steps t 0) (step-card s people steps rules (cardsIn s) w t l) .skipped;
+      fits = marked-fits s people steps rules e;
+      nested = λ p q l m d.
+          sym (getD-table 64 (shopOf s) people p l)
+          ∙ r .nested p q l m (getD-table 64 (benchOf s) people p l ∙ d ∙ sym (getD-table 64 (benchOf s) people q m))
+          ∙ getD-table 64 (shopOf s) people q m;
+    }
+
+pub steps-remain : demands.StepsRemain
+steps-remain s steps =
+    let n = steps-left-length s steps in
+    record {
+      on-chain = λ k l. kept-below (skippedAt s steps) (length steps) k (omega (arith, n));
+      remains = λ k l. kept-remains (skippedAt s steps) (length steps) k (omega (arith, n));
+      ordered = λ k m a b. kept-ordered (skippedAt s steps) (length steps) k m a (omega (arith, n));
+      every = λ t l h. let k = kept-every (skippedAt s steps) (length steps) t l h in (k .0, omega (arith, k .1, n), k .2);
     }

@@ -17,6 +17,9 @@ use Rattle.sheet.proofs.Readable.{readable-job}
 use Rattle.sheet.specs.Answer.{zeros}
 use Rattle.sheet.specs.Faults.{cardsIn}
 use Rattle.sheet.specs.Read.{job, readSheet}
+use Rattle.remaining.proofs.KeptLaws.{kept-below, kept-ordered, kept-few}
+use Rattle.remaining.proofs.Laws.{steps-left-length, steps-left-at}
+use Rattle.remaining.specs.Remaining.{skippedAt, keptOf, keptAt, stepsLeft}
 use Rattle.workflow.specs.Problem.{Satisfiable}
 use Rattle.instance.specs.Instance.{instanceIn, mayDo}
 use Rattle.signing.proofs.Cases.{sign-cases, sign-nothing}
@@ -38,11 +41,11 @@ use Rattle.fulmarinvar.proofs.SheetDemand.{jobs-of-cards}
 
 -- the signers are those granted, and the job can still be finished
 pub record Kept (h : List Event) (s people steps rules : List ℕ) (signer : List ℕ) : Type 0 where
-  pub matches : (t p : ℕ) → t < length steps → p < length people
-      → (getD signer t 0 ≡ suc p) ↔ Granted h (tagOf s (getD steps t 0)) (tagOf s (getD people p 0))
-  pub each : (t : ℕ) → t < length steps → (getD signer t 0 ≡ 0) ⊎ ((p : ℕ) × (p < length people) × (getD signer t 0 ≡ suc p))
-  pub beyond : (t : ℕ) → length steps ≤ t → getD signer t 0 ≡ 0
-  pub named : (a b : ℕ) → Granted h a b → (t : ℕ) × (p : ℕ) × Names s steps a t × Names s people b p
+  pub matches : (t p : ℕ) → t < length (stepsLeft s steps) → p < length people
+      → (getD signer t 0 ≡ suc p) ↔ Granted h (tagOf s (getD (stepsLeft s steps) t 0)) (tagOf s (getD people p 0))
+  pub each : (t : ℕ) → t < length (stepsLeft s steps) → (getD signer t 0 ≡ 0) ⊎ ((p : ℕ) × (p < length people) × (getD signer t 0 ≡ suc p))
+  pub beyond : (t : ℕ) → length (stepsLeft s steps) ≤ t → getD signer t 0 ≡ 0
+  pub named : (a b : ℕ) → Granted h a b → (t : ℕ) × (p : ℕ) × Names s (stepsLeft s steps) a t × Names s people b p
   pub finish : CanFinish s people steps rules signer
 
 pub data Standing (h : List Event) (signer : List ℕ) : Type 0 where
@@ -113,8 +116,14 @@ module _ (s people steps rules : List ℕ) (r : readSheet s ≡ job people steps
   fits : length s ≤ 2256
   fits = length-right (length s) (sheet-passes s people steps rules r .good-length) .2
 
-  pub few-steps : length steps ≤ 12
-  few-steps = readable-job s people steps rules (cardsIn s) (sheet-passes s people steps rules r .rest) .steps-most
+  pub few-steps : length (stepsLeft s steps) ≤ 12
+  few-steps =
+      omega (
+        arith,
+        steps-left-length s steps,
+        kept-few (skippedAt s steps) (length steps),
+        readable-job s people steps rules (cardsIn s) (sheet-passes s people steps rules r .rest) .steps-most,
+      )
 
   stands-opened : (h : List Event) (n : ℕ) → n ≡ 0 → Satisfiable (instanceIn s people steps rules) (mayDo s people steps rules) → Stands (opening s n ∷ h) (opened s)
   unfolding lastOpened refusedCount opened
@@ -150,14 +159,24 @@ module _ (s people steps rules : List ℕ) (r : readSheet s ≡ job people steps
       by-cases (ltb u t) (λ m. absurd (differ u t (ltb-true u t m) (x .below) (y .is ∙ sym (x .is))))
       (λ m. let c = ltb-false t u l in let d = ltb-false u t m in omega arith))
 
-  pub same-step : (a t u : ℕ) → Names s steps a t → Names s steps a u → t ≡ u
-  same-step = same-place steps (cards .step-tags)
+  pub same-card : (a t u : ℕ) → Names s steps a t → Names s steps a u → t ≡ u
+  same-card = same-place steps (cards .step-tags)
+
+  pub same-step : (a t u : ℕ) → Names s (stepsLeft s steps) a t → Names s (stepsLeft s steps) a u → t ≡ u
+  same-step =
+      same-place (stepsLeft s steps)
+      (λ t u l m e.
+      let n = steps-left-length s steps in
+      let b : u < length (keptOf s steps) = omega arith in
+      cards .step-tags (keptAt s steps t) (keptAt s steps u) (kept-ordered (skippedAt s steps) (length steps) t u l b)
+      (kept-below (skippedAt s steps) (length steps) u b)
+      (ap (tagOf s) (sym (steps-left-at s steps t (omega arith))) ∙ e ∙ ap (tagOf s) (steps-left-at s steps u b)))
 
   pub same-person : (a p q : ℕ) → Names s people a p → Names s people a q → p ≡ q
   same-person = same-place people (cards .person-tags)
 
   module _ (h : List Event) (signer : List ℕ) (long : length signer ≡ 12) (k : Kept h s people steps rules signer)
-      (a b t p : ℕ) (step : Names s steps a t) (person : Names s people b p) (free : isOpen signer t ≡ true) (n : ℕ) (z : n ≡ 0) where
+      (a b t p : ℕ) (step : Names s (stepsLeft s steps) a t) (person : Names s people b p) (free : isOpen signer t ≡ true) (n : ℕ) (z : n ≡ 0) where
     abbrev more : List ℕ
     more = set signer t (suc p)
 
@@ -168,7 +187,7 @@ module _ (s people steps rules : List ℕ) (r : readSheet s ≡ job people steps
     there u d = getD-set-other signer t u (suc p) 0 d
 
     abbrev Match : ℕ → ℕ → Type 0
-    Match u q = (getD more u 0 ≡ suc q) ↔ Granted (signing a b n ∷ h) (tagOf s (getD steps u 0)) (tagOf s (getD people q 0))
+    Match u q = (getD more u 0 ≡ suc q) ↔ Granted (signing a b n ∷ h) (tagOf s (getD (stepsLeft s steps) u 0)) (tagOf s (getD people q 0))
 
     match-here : (q : ℕ) → q < length people → Match t q
     match-here q m = (
@@ -180,7 +199,7 @@ module _ (s people steps rules : List ℕ) (r : readSheet s ≡ job people steps
           (λ e. absurd (omega (arith, eqb-true (getD signer t 0) 0 free, k .matches t q (step .below) m .1 e))) g,
     )
 
-    match-there : (u q : ℕ) → u < length steps → q < length people → (u ≡ t → ⊥) → Match u q
+    match-there : (u q : ℕ) → u < length (stepsLeft s steps) → q < length people → (u ≡ t → ⊥) → Match u q
     match-there u q l m d = (
       λ x. inr (k .matches u q l m .0 (sym (there u d) ∙ x)),
       λ g.
@@ -235,7 +254,7 @@ module _ (h : List Event) (i : JobState) (w : Stands h i) where
         (stands-refused h i a b n f (λ z. absurd (omega arith)) w)
 
     module _ (people steps rules : List ℕ) (r : readSheet (lastOpened h) ≡ job people steps rules) (k : Kept h (lastOpened h) people steps rules (i .signer)) where
-      given-stands : (t p : ℕ) → Names (lastOpened h) steps a t → Names (lastOpened h) people b p → isOpen (i .signer) t ≡ true
+      given-stands : (t p : ℕ) → Names (lastOpened h) (stepsLeft (lastOpened h) steps) a t → Names (lastOpened h) people b p → isOpen (i .signer) t ≡ true
           → CanFinish (lastOpened h) people steps rules (set (i .signer) t (suc p)) → signAnswer i a b ≡ granted t p i → Stands (signing a b n ∷ h) j
       unfolding lastOpened refusedCount held
       given-stands t p step person free plan e =

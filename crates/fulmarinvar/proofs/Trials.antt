@@ -6,6 +6,8 @@ use Rattle.card.specs.Fields.{headerOk, personOk, stepOk, ruleOk, limitOk, fiel
 use Rattle.chain.specs.Walk.{walk, firstFault}
 use Rattle.sheet.specs.Read.{readSheet, readPeople, peopleRead, stepsRead, checked, firstClash, firstLate, firstLoose}
 use Rattle.sheet.specs.Answer.{jobOf, table}
+use Rattle.remaining.specs.Kept.{keptBelow, gather}
+use Rattle.remaining.specs.Remaining.{jobOver}
 use Rattle.workflow.specs.Problem.{opens, distinct, authorisedTest, eligibleTest, valid}
 use Rattle.workflow.specs.First.{firstPlan, firstOf, tryAll}
 use Rattle.instance.specs.Instance.{crewTags}
@@ -22,7 +24,7 @@ use Rattle.fulmarinvar.specs.Trials.{All, trials}
 
 pub trials-hold : All trials
 unfolding all any count first headerOk personOk stepOk ruleOk limitOk fieldsOk walk member firstFault readSheet readPeople peopleRead stepsRead checked firstClash firstLate
-    firstLoose jobOf table opens distinct authorisedTest eligibleTest valid firstPlan firstOf tryAll crewTags written
+    firstLoose jobOf table keptBelow gather jobOver opens distinct authorisedTest eligibleTest valid firstPlan firstOf tryAll crewTags written
     planned crewOf crewRead breaking increasing spare firstBreaking counts.countFrom awayTags spareBytes spareOf spareRead spareAnswer linesBelow linesFound linesRead triedRead planNumber
 trials-hold = (
   (refl, refl, refl, (refl, (refl, tt))),
@@ -38,7 +40,13 @@ trials-hold = (
             (refl, refl, refl, (refl, tt)),
             (
               (refl, refl, refl, (refl, tt)),
-              ((refl, refl, refl, (refl, tt)), tt),
+              (
+                (refl, refl, refl, (refl, tt)),
+                (
+                  (refl, refl, refl, (refl, tt)),
+                  ((refl, refl, refl, (refl, tt)), tt),
+                ),
+              ),
             ),
           ),
         ),

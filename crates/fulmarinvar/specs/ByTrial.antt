@@ -7,6 +7,7 @@ use mathlib.Core.Path.{_≡_}
 use Prim.Native.Nat.{ℕ, suc, _^_, _<_}
 use lib.ListN.{length}
 use Rattle.sheet.specs.Read.{Read, job, fault, readSheet}
+use Rattle.remaining.specs.Remaining.{stepsLeft}
 use Rattle.workflow.specs.Problem.{Job, May, Plan, OfPeople, Met, Valid}
 use Rattle.workflow.specs.First.{Earlier, FirstValid, planOf, firstPlan}
 use Rattle.instance.specs.Instance.{instanceIn, mayDo}
@@ -73,7 +74,7 @@ plansTriedOf s = triedRead s (readSheet s)
 
 -- what the program is given to print is that number
 abbrev pub TriedPrinted : Type 0
-TriedPrinted = (s people steps rules : List ℕ) → readSheet s ≡ job people steps rules → length people ^ length steps < 2 ^ 64
+TriedPrinted = (s people steps rules : List ℕ) → readSheet s ≡ job people steps rules → length people ^ length (stepsLeft s steps) < 2 ^ 64
     → (won : Bool) (plan : List ℕ) (tried : ℕ) → TriedEvery (instanceIn s people steps rules) (mayDo s people steps rules) won plan tried
     → tried ≡ plansTriedOf s
 

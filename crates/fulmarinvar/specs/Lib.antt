@@ -2,6 +2,7 @@ pub mod Promise
 pub mod History
 pub mod Demands
 pub mod Signing
+pub mod Skipped
 pub mod RuleCounts
 pub mod ByTrial
 pub mod Sheets

@@ -10,7 +10,7 @@ use Rattle.signing.specs.Sign.{signAnswer}
 use Rattle.signing.specs.declared.JobState.{JobState}
 
 -- The crew call, and the one that tries every plan. `crewAnswer` (answer/specs/Crew.antt): the reader's refusal with its card (`readSheet`, sheet/specs/Read.antt); 1 where the
--- buffer is shorter than 8 bytes a step; 13 where no valid plan exists; else 0 and the first valid plan (`firstPlan`,
+-- buffer is shorter than 8 bytes a step that remains; 13 where no valid plan exists; else 0 and the first valid plan (`firstPlan`,
 -- workflow/specs/First.antt), later bytes as they were. A refusal leaves every byte.
 pub record CrewPromise (sheet buffer : List ℕ) (number : ℕ) (left : List ℕ) : Type 0 where
   pub returned : number ≡ crewAnswer sheet buffer .number
@@ -30,7 +30,7 @@ pub record OpenPromise (job : JobState) (sheet : List ℕ) (number : ℕ) (left 
   pub returned : number ≡ openAnswer job sheet .number
   pub job-left : left ≡ openAnswer job sheet .job
 
--- The signing of a step by a person, both by tag. `signAnswer` (signing/specs/Sign.antt): 14 for an unknown step or person, 15 for a signed
+-- The signing of a step by a person, both by tag. `signAnswer` (signing/specs/Sign.antt): 14 for an unknown or skipped step or an unknown person, 15 for a signed
 -- step, 16 where no valid plan agrees with this signing and all granted before; only the count differs then. Else 0, and the step is signed.
 pub record SignPromise (job : JobState) (step person number : ℕ) (left : JobState) : Type 0 where
   pub returned : number ≡ signAnswer job step person .number

@@ -1,18 +1,21 @@
 -- Ask 2 of paper 02, rule counts beside the crew: "Head restorers check a crew against the rules and want the figure." What the planning program
 -- is given to print of a rule, in the paper's words. proofs/RuleCounts.antt proves it from the contract of instance::counts::rule_counts (CountsOf). Assumes nothing.
+use mathlib.Core.Bool.{false}
 use mathlib.Core.List.{List, [], _∷_, _++_}
 use mathlib.Core.Path.{_≡_}
 use Prim.Native.Nat.{ℕ, zero, suc, _<_}
 use lib.ListN.{length, getD}
-use Rattle.bits.specs.Word.{hasBit}
-use Rattle.card.specs.Fields.{ruleKindOf, levelOf, limitOf, scopeOf}
-use Rattle.sheet.specs.Answer.{jobOf}
+use Rattle.card.specs.Fields.{ruleKindOf, levelOf, limitOf}
 use Rattle.sheet.specs.Read.{Read, job, fault, readSheet}
 use Rattle.sheet.specs.declared.SheetJob as sheet
-use Rattle.workflow.specs.Problem.{Plan, DifferentClasses, Asks, Valid, classCount}
+use Rattle.remaining.specs.Remaining.{skippedAt, keptAt, stepsLeft, jobLeft}
+use Rattle.workflow.specs.Problem.{Plan, DifferentClasses, classCount}
 use Rattle.workflow.specs.First.{Found, found, nothing, planOf, listOf, firstPlan}
+use Rattle.workflow.specs.Leaves.{planLeft}
 use Rattle.workflow.specs.Numbered.{kindIn}
-use Rattle.instance.specs.Instance.{classNumber, instanceIn, mayDo}
+use Rattle.workflow.specs.Skipped.{scopeLeft, sizeLeft, AsksLeft, ValidLeft}
+use Rattle.instance.specs.Instance.{instanceIn, mayDo}
+use Rattle.instance.specs.Marked.{ruleOn, markedIn, permittedIn}
 use Rattle.instance.specs.Counts.{CountsOf}
 
 -- ---- "Last, the planning program prints a line for each rule, in chain order"
@@ -33,22 +36,31 @@ printedLine j counts i =
 pub record LineOf (s people steps rules : List ℕ) (π : Plan) (i : ℕ) (line : RuleLine) : Type 0 where
   pub kind : line .kind ≡ ruleKindOf s (getD rules i 0)
   pub level : line .level ≡ levelOf s (getD rules i 0)
+  -- "RULE limits printed, as the card has them"
   pub limit : line .limit ≡ limitOf s (getD rules i 0)
-  -- "the number of different classes of its level among the people given to the steps of its scope"
-  pub count : DifferentClasses (length steps) (hasBit (scopeOf s (getD rules i 0))) (λ t. classNumber (jobOf s people steps rules) (levelOf s (getD rules i 0)) (π t)) (line .count)
+  -- "the number of different classes of its level among the people given to the steps of its scope"; "Scopes lose their skipped steps."
+  pub count : let m = markedIn s people steps rules in
+      DifferentClasses (length steps) (scopeLeft m (ruleOn s (getD rules i 0))) (λ t. m .class (levelOf s (getD rules i 0)) (π t)) (line .count)
 
--- each line is that of its rule, in chain order, for every sheet that is readable and every plan
+-- the steps that remain have people of the sheet
+abbrev pub GivesLeft : List ℕ → List ℕ → List ℕ → Plan → Type 0
+GivesLeft s people steps π = (t : ℕ) → t < length steps → skippedAt s steps t ≡ false → π t < length people
+
+-- each line is that of its rule, in chain order, for every sheet that is readable and every plan of its people
 abbrev pub LinesOfRules : Type 0
 LinesOfRules = (s people steps rules : List ℕ) → readSheet s ≡ job people steps rules → (π : Plan) (counts : List ℕ)
-    → CountsOf (instanceIn s people steps rules) π (length rules) counts → (i : ℕ) → i < length rules
-    → LineOf s people steps rules π i (printedLine (jobOf s people steps rules) counts i)
+    → GivesLeft s people steps π → CountsOf (instanceIn s people steps rules) (planLeft (keptAt s steps) π) (length rules) counts
+    → (i : ℕ) → i < length rules
+    → LineOf s people steps rules π i (printedLine (jobLeft s people steps rules) counts i)
 
--- and for a crew, which is a valid plan, its count is what its kind asks for: "Kind 1, same: .. count 1" and so on
+-- and for a crew, which is a valid plan, its count is what its kind asks for with the steps left: "Kind 1, same: .. count 1" and so on
 abbrev pub LinesAsked : Type 0
 LinesAsked = (s people steps rules : List ℕ) → readSheet s ≡ job people steps rules → (π : Plan) (counts : List ℕ)
-    → CountsOf (instanceIn s people steps rules) π (length rules) counts → Valid (instanceIn s people steps rules) (mayDo s people steps rules) π
+    → CountsOf (instanceIn s people steps rules) (planLeft (keptAt s steps) π) (length rules) counts
+    → ValidLeft (markedIn s people steps rules) (permittedIn s people) π
     → (i : ℕ) → i < length rules
-    → let line = printedLine (jobOf s people steps rules) counts i in Asks (kindIn (line .kind)) (line .limit) (line .count)
+    → let line = printedLine (jobLeft s people steps rules) counts i in
+    AsksLeft (kindIn (line .kind)) (line .limit) (sizeLeft (markedIn s people steps rules) (ruleOn s (getD rules i 0))) (line .count)
 
 -- ---- the lines of a sheet, for its first valid plan; none where it has none
 
@@ -85,6 +97,6 @@ ruleLines s = linesRead s (readSheet s)
 -- they are what the program is given to print: with the plan that crew::plan_job gives, and its counts by instance::counts::rule_counts
 abbrev pub LinesPrinted : Type 0
 LinesPrinted = (s people steps rules : List ℕ) → readSheet s ≡ job people steps rules → (π : Plan) (counts : List ℕ)
-    → firstPlan (instanceIn s people steps rules) (mayDo s people steps rules) ≡ found (listOf (length steps) π)
+    → firstPlan (instanceIn s people steps rules) (mayDo s people steps rules) ≡ found (listOf (length (stepsLeft s steps)) π)
     → CountsOf (instanceIn s people steps rules) π (length rules) counts
-    → ruleLines s ≡ linesBelow (length rules) (printedLine (jobOf s people steps rules) counts)
+    → ruleLines s ≡ linesBelow (length rules) (printedLine (jobLeft s people steps rules) counts)

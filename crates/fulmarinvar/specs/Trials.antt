@@ -1,4 +1,4 @@
--- The starred sheets to try of paper 01, in one table with one statement. Assumes nothing.
+-- The starred sheets to try of paper 01, and W with skipped steps, in one table with one statement. Assumes nothing.
 use mathlib.Core.List.{List, [], _∷_, _++_}
 use mathlib.Core.Path.{_≡_}
 use Prim.Native.Nat.{ℕ, _+_}
@@ -8,7 +8,7 @@ use Rattle.answer.specs.Crew.{crewAnswer}
 use Rattle.resiliency.specs.Spare.{spareAnswer}
 use Rattle.fulmarinvar.specs.ByTrial.{plansTriedOf}
 use Rattle.fulmarinvar.specs.RuleCounts.{RuleLine, ruleLines}
-use Rattle.fulmarinvar.specs.Sheets.{sheetW, sheet3, sheet9, sheetWith, sheetOne}
+use Rattle.fulmarinvar.specs.Sheets.{sheetW, sheet3, sheet9, sheetWith, sheetOne, sheetSkipping}
 
 -- what the spare call gives with a cap
 pub record SpareTrial : Type 0 where
@@ -64,7 +64,7 @@ figures kind level limit count = record { kind = kind; level = level; limit = li
 abbrev pub linesW : List RuleLine
 linesW = figures 1 2 0 1 ∷ figures 1 1 0 1 ∷ figures 2 3 0 2 ∷ []
 
--- sheets 1 and 2, which are W with two caps, and 3 to 9
+-- sheets 1 and 2, which are W with two caps, 3 to 9, and W with its second step skipped, then with all
 abbrev pub trials : List SheetTrial
 trials =
     record { sheet = sheetW; size = 24; crew = crewW; tried = 2; lines = linesW; spares = counted 2 1 (101 ∷ 102 ∷ 0 ∷ []) ∷ counted 0 0 (0 ∷ 0 ∷ 0 ∷ []) ∷ [] }
@@ -75,4 +75,6 @@ trials =
     ∷ record { sheet = sheetOne 1; size = 8; crew = tags (10 ∷ 101 ∷ []); tried = 1; lines = []; spares = counted 3 0 (101 ∷ 0 ∷ 0 ∷ []) ∷ [] }
     ∷ record { sheet = sheetOne 0; size = 8; crew = noPlan 11; tried = 1; lines = []; spares = noCount 3 ∷ [] }
     ∷ record { sheet = sheet9; size = 24; crew = tags (10 ∷ 101 ∷ 20 ∷ 101 ∷ 30 ∷ 101 ∷ []); tried = 1; lines = figures 1 2 0 1 ∷ figures 1 1 0 1 ∷ []; spares = counted 2 1 (101 ∷ 102 ∷ 0 ∷ []) ∷ [] }
+    ∷ record { sheet = sheetSkipping 0 1 0; size = 16; crew = tags (10 ∷ 101 ∷ 30 ∷ 101 ∷ []); tried = 1; lines = figures 1 2 0 1 ∷ figures 1 1 0 1 ∷ figures 2 3 0 1 ∷ []; spares = counted 2 1 (101 ∷ 102 ∷ 0 ∷ []) ∷ [] }
+    ∷ record { sheet = sheetSkipping 1 1 1; size = 0; crew = tags []; tried = 1; lines = figures 1 2 0 0 ∷ figures 1 1 0 0 ∷ figures 2 3 0 0 ∷ []; spares = counted 2 2 (0 ∷ 0 ∷ 0 ∷ []) ∷ [] }
     ∷ []

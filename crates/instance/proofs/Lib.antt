@@ -1,3 +1,4 @@
 pub mod Laws
 pub mod Counted
 pub mod Classes
+pub mod Marked

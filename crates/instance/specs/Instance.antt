@@ -1,9 +1,9 @@
--- The job of a readable sheet as an instance of the workflow satisfiability problem. Assumes nothing.
+-- The job of a readable sheet, over the steps that remain, as an instance of the workflow satisfiability problem. Assumes nothing.
 use mathlib.Core.List.{List, [], _∷_, _++_}
 use Prim.Native.Nat.{ℕ, zero, suc}
 use lib.ListN.{length, getD}
 use Rattle.bits.specs.Word.{hasBit}
-use Rattle.sheet.specs.Answer.{jobOf}
+use Rattle.remaining.specs.Remaining.{stepsLeft, jobLeft}
 use Rattle.sheet.specs.declared.SheetJob as sheet
 use Rattle.workflow.specs.Problem.{Job, May}
 use Rattle.workflow.specs.Numbered.{cardRule}
@@ -34,12 +34,12 @@ instanceOf people steps rules j =
 abbrev pub mayOf : sheet.SheetJob → May
 mayOf j s p = hasBit (getD (j .permitted) p 0) s
 
--- both, of a sheet with these cards along its chains
+-- both, of a sheet with these cards along its chains: over the steps that remain
 abbrev pub instanceIn : List ℕ → List ℕ → List ℕ → List ℕ → Job
-instanceIn s people steps rules = instanceOf (length people) (length steps) (length rules) (jobOf s people steps rules)
+instanceIn s people steps rules = instanceOf (length people) (length (stepsLeft s steps)) (length rules) (jobLeft s people steps rules)
 
 abbrev pub mayDo : List ℕ → List ℕ → List ℕ → List ℕ → May
-mayDo s people steps rules = mayOf (jobOf s people steps rules)
+mayDo s people steps rules = mayOf (jobLeft s people steps rules)
 
 -- "step tag then person tag, steps in chain order": of the first n steps of a plan
 unfoldable pub crewTags : List ℕ → List ℕ → List ℕ → ℕ → List ℕ

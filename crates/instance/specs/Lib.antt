@@ -1,2 +1,3 @@
 pub mod Instance
 pub mod Counts
+pub mod Marked

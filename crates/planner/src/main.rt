@@ -17,9 +17,9 @@ use listing::text;
 use listing::write_plan;
 use listing::write_refusal;
 use listing::write_rules;
+use remaining::read_job;
 use resiliency::call::spare;
 use sheet::Reading;
-use sheet::read_sheet;
 
 const CAP: u32 = 2;
 
@@ -65,7 +65,7 @@ fn write_spare(bytes: &[u8; SPARE])
 
 // The answer to a sheet: a refusal, or the plan, the spare count and the count of each rule for the plan.
 fn write_answer(sheet: &[u8]) {
-    let read = read_sheet(sheet);
+    let read = read_job(sheet);
     let reading = read.reading;
     let Reading::Readable {
         people,

@@ -4,13 +4,14 @@ use mathlib.Core.Path.{_≡_, refl, sym, ap, _∙_}
 use Prim.Native.Nat.{ℕ, suc, _≤_, _<_}
 use lib.ListN.{length}
 use borrow.Author.Tests.{lt-ltb, le-ltb}
-use Rattle.sheet.specs.Answer.{jobOf, sheetOf}
+use Rattle.remaining.proofs.Laws.{read-job-fault}
+use Rattle.remaining.specs.Remaining.{remainingOf, stepsLeft, jobLeft}
 use Rattle.answer.specs.Number.{refusalNumber, numberOf}
 use Rattle.sheet.specs.Readable.{ReadableJob}
 use Rattle.sheet.specs.declared.SheetJob as sheet
 use Rattle.sheet.specs.declared.Sheet.{Sheet}
 use Rattle.sheet.specs.declared.Reading.the-variants.{Readable, Refused}
-use Rattle.answer.proofs.WasRead.{read-fault, was-read, was-readable, was-job}
+use Rattle.answer.proofs.WasRead.{was-read, was-readable, was-job}
 use Rattle.sheet.specs.Read.{job, fault, readSheet}
 use Rattle.workflow.specs.Problem.{Job, May, Satisfiable}
 use Rattle.instance.specs.Instance.{instanceOf, mayOf}
@@ -39,13 +40,13 @@ module _ (cap : ℕ) (s buffer : List ℕ) where
 
   module _ (people steps rules : List ℕ) (l : cap ≤ capLimit) (e : readSheet s ≡ job people steps rules) where
     abbrev theJob : Job
-    theJob = instanceOf (length people) (length steps) (length rules) (jobOf s people steps rules)
+    theJob = instanceOf (length people) (length (stepsLeft s steps)) (length rules) (jobLeft s people steps rules)
 
     abbrev theMay : May
-    theMay = mayOf (jobOf s people steps rules)
+    theMay = mayOf (jobLeft s people steps rules)
 
     abbrev tags : List ℕ
-    tags = jobOf s people steps rules .«person_tag»
+    tags = jobLeft s people steps rules .«person_tag»
 
     -- a buffer of less than 16 bytes
     pub buffer-short : length buffer < spareSize → spareAnswer cap s buffer ≡ refused shortFault 0 buffer
@@ -83,13 +84,13 @@ module _ (cap : ℕ) (s buffer : List ℕ) where
   pub left-cap : (m : ℕ) → m ≡ refusalNumber capFault 0 → capLimit < cap → Left (spareAnswer cap s buffer) m buffer
   left-cap m e l = left-same (cap-refused cap s buffer l) (record { number = e; bytes = refl })
 
-  pub left-refused : (a : Sheet) → a ≡ sheetOf s → cap ≤ capLimit → (f c n : ℕ) → a .reading ≡ Refused f c → n ≡ numberOf (a .reading)
+  pub left-refused : (a : Sheet) → a ≡ remainingOf s → cap ≤ capLimit → (f c n : ℕ) → a .reading ≡ Refused f c → n ≡ numberOf (a .reading)
       → Left (spareAnswer cap s buffer) n buffer
   left-refused a e l f c n d h =
-      left-same (sheet-refused cap s buffer f c l (read-fault s f c (sym (ap (λ (x : Sheet). x .reading) e) ∙ d)))
+      left-same (sheet-refused cap s buffer f c l (read-job-fault s f c (sym (ap (λ (x : Sheet). x .reading) e) ∙ d)))
       (record { number = h ∙ ap numberOf d; bytes = refl })
 
-  module _ (a : Sheet) (e : a ≡ sheetOf s) (l : cap ≤ capLimit) (p n u : ℕ) (d : a .reading ≡ Readable p n u) where
+  module _ (a : Sheet) (e : a ≡ remainingOf s) (l : cap ≤ capLimit) (p n u : ℕ) (d : a .reading ≡ Readable p n u) where
     pub job-readable : ReadableJob p n u (a .job)
     job-readable = was-readable s a e p n u d
 

@@ -1,6 +1,7 @@
 pub mod Groups
 pub mod Breaking
 pub mod Laws
+pub mod Moves
 pub mod Answered
 pub mod Knowing
 pub mod Walking

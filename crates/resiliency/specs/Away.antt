@@ -14,9 +14,13 @@ use Rattle.workflow.specs.First.{Found, found, nothing, planOf, firstPlan, Earl
 abbrev pub without : May → (ℕ → Bool) → May
 without may away s p = may s p && not (away p)
 
--- "for every set of at most t people away a valid plan exists among the others": any set, not only those that the walk comes to
+-- "for every set of at most t people away a valid plan exists among the others": any set, not only those that the walk comes to; `can` says whether a valid
+-- plan exists
+abbrev pub ResilientBy : ℕ → (May → Type 0) → May → ℕ → Type 0
+ResilientBy people can may t = (away : ℕ → Bool) → count people away ≤ t → can (without may away)
+
 abbrev pub Resilient : Job → May → ℕ → Type 0
-Resilient j may t = (away : ℕ → Bool) → count (j .people) away ≤ t → Satisfiable j (without may away)
+Resilient j = ResilientBy (j .people) (Satisfiable j)
 
 -- "The members of an away set stand in crew order": a set of k of the people, as a list
 pub record Group (people k : ℕ) (xs : List ℕ) : Type 0 where
@@ -25,15 +29,21 @@ pub record Group (people k : ℕ) (xs : List ℕ) : Type 0 where
   pub ordered : (i : ℕ) → suc i < k → getD xs i 0 < getD xs (suc i) 0
 
 -- the absence of these people leaves no valid plan
+abbrev pub BreaksBy : (May → Type 0) → May → List ℕ → Type 0
+BreaksBy can may xs = can (without may (member xs)) → ⊥
+
 abbrev pub Breaks : Job → May → List ℕ → Type 0
-Breaks j may xs = Satisfiable j (without may (member xs)) → ⊥
+Breaks j = BreaksBy (Satisfiable j)
 
 -- xs is the first breaking group of k people: every other comes after it. "of two sets of one size, the one with the earlier person
 -- where they first differ comes first"
-pub record FirstBreaking (j : Job) (may : May) (k : ℕ) (xs : List ℕ) : Type 0 where
-  pub group : Group (j .people) k xs
-  pub breaks : Breaks j may xs
-  pub after : (ys : List ℕ) → Group (j .people) k ys → Breaks j may ys → (ys ≡ xs → ⊥) → Earlier k (planOf xs) (planOf ys)
+pub record FirstBreakingBy (people : ℕ) (can : May → Type 0) (may : May) (k : ℕ) (xs : List ℕ) : Type 0 where
+  pub group : Group people k xs
+  pub breaks : BreaksBy can may xs
+  pub after : (ys : List ℕ) → Group people k ys → BreaksBy can may ys → (ys ≡ xs → ⊥) → Earlier k (planOf xs) (planOf ys)
+
+abbrev pub FirstBreaking : Job → May → ℕ → List ℕ → Type 0
+FirstBreaking j = FirstBreakingBy (j .people) (Satisfiable j)
 
 -- the same as tests: of the order, and of what the absence leaves
 unfoldable pub increasing : List ℕ → Bool

@@ -4,7 +4,7 @@ use mathlib.Core.List.{List, []}
 use Prim.Native.Nat.{ℕ, zero, suc, _≤_, _<_}
 use Rattle.workflow.specs.Problem.{Job, May, Satisfiable}
 use Rattle.workflow.specs.First.{Found, found, nothing, tryAll, firstPlan}
-use Rattle.resiliency.specs.Away.{Resilient, FirstBreaking, increasing, breaking}
+use Rattle.resiliency.specs.Away.{ResilientBy, Resilient, FirstBreaking, increasing, breaking}
 
 -- no valid plan with everyone present; the count is the cap; or the count with the group whose absence leaves no valid plan
 pub data Spare : Type 0 where
@@ -49,7 +49,10 @@ IsSpare j may cap capped = Resilient j may cap
 IsSpare j may cap (broken t xs) = (t < cap) × Resilient j may t × FirstBreaking j may (suc t) xs
 
 -- t is the largest number, at most cap, of absences that the job stands
-pub record Largest (j : Job) (may : May) (cap t : ℕ) : Type 0 where
+pub record LargestBy (people : ℕ) (can : May → Type 0) (may : May) (cap t : ℕ) : Type 0 where
   pub most : t ≤ cap
-  pub stands : Resilient j may t
-  pub largest : (u : ℕ) → u ≤ cap → Resilient j may u → u ≤ t
+  pub stands : ResilientBy people can may t
+  pub largest : (u : ℕ) → u ≤ cap → ResilientBy people can may u → u ≤ t
+
+abbrev pub Largest : Job → May → ℕ → ℕ → Type 0
+Largest j = LargestBy (j .people) (Satisfiable j)

@@ -4,7 +4,7 @@ use mathlib.Core.List.{List, [], _∷_, _++_}
 use Prim.Native.Nat.{ℕ, zero, suc}
 use lib.Dec.{ltb}
 use lib.ListN.{length, drop, getD}
-use Rattle.sheet.specs.Answer.{jobOf}
+use Rattle.remaining.specs.Remaining.{stepsLeft, jobLeft}
 use Rattle.sheet.specs.Read.{Read, job, fault, readSheet}
 use Rattle.sheet.specs.declared.SheetJob as sheet
 use Rattle.instance.specs.Instance.{instanceOf, mayOf}
@@ -45,7 +45,8 @@ spareOf cap people steps rules j buffer =
 
 -- of what was read: "A refusal of the reader is passed up with its card."
 unfoldable pub spareRead : ℕ → List ℕ → List ℕ → Read → Outcome
-spareRead cap s buffer (job people steps rules) = spareOf cap (length people) (length steps) (length rules) (jobOf s people steps rules) buffer
+spareRead cap s buffer (job people steps rules) =
+    spareOf cap (length people) (length (stepsLeft s steps)) (length rules) (jobLeft s people steps rules) buffer
 spareRead cap s buffer (fault f c) = refused f c buffer
 
 -- the spare call on a cap, a sheet and a buffer

@@ -7,8 +7,8 @@ use answer::returned;
 use card::refusal::CAP_FAULT;
 use card::refusal::PLAN_FAULT;
 use card::refusal::SHORT_FAULT;
+use remaining::read_job;
 use sheet::Reading;
-use sheet::read_sheet;
 ghost use mathlib.Core.List.{[], _∷_, _++_};
 ghost use mathlib.Core.Path.{_≡_};
 ghost use Prim.Native.Nat.{_≤_};
@@ -69,7 +69,7 @@ pub fn spare(sheet: &[u8], answer: &mut [u8], cap: u32) -> u32
     if cap > MOST_AWAY {
         return returned(CAP_FAULT, 0);
     }
-    let read = read_sheet(sheet);
+    let read = read_job(sheet);
     let reading = read.reading;
     let Reading::Readable {
         people,

@@ -15,7 +15,7 @@ use Rattle.bits.proofs.Below.{by-cases, true-false, and-left, and-right}
 use Rattle.bits.proofs.Masks.{bits-below}
 use Rattle.bits.proofs.SetLaws.{has-below}
 use Rattle.card.specs.Layout.{cardByte, cardWord, cardLong, kindOf, nextOf, headerKind}
-use Rattle.card.specs.Fields.{headerOk, personOk, stepOk, ruleOk, tagOf, shopOf, benchOf, permittedOf, ruleKindOf, levelOf, limitOf, scopeOf, limitOk, scopeSize, nonzero, onlyBelow}
+use Rattle.card.specs.Fields.{headerOk, personOk, stepOk, ruleOk, tagOf, shopOf, benchOf, permittedOf, skippedOf, ruleKindOf, levelOf, limitOf, scopeOf, limitOk, scopeSize, nonzero, onlyBelow}
 use Rattle.card.proofs.Limits.{limit-cases}
 use Rattle.card.proofs.Zeros.{word-zero, zero-word, long-zero, zero-long}
 use Rattle.sheet.specs.Read.{lengthOk}
@@ -53,6 +53,13 @@ high-zero s c h = zero-long s c 12 (λ b l m. h b (omega arith) m)
 
 not-zero : {x : ℕ} → 0 < x → x ≡ 0 → ⊥
 not-zero l e = omega arith
+
+one-or-none : (x : ℕ) → x ≤ 1 → (x ≡ 0) ⊎ (x ≡ 1)
+one-or-none x l = by-cases (eqb x 0) (λ t. inl (eqb-true x 0 t)) (λ t. inr (let d = eqb-false x 0 t in omega arith))
+
+at-most-one : (x : ℕ) → (x ≡ 0) ⊎ (x ≡ 1) → x ≤ 1
+at-most-one x (inl e) = omega arith
+at-most-one x (inr e) = omega arith
 
 -- tests that all pass
 and-four : (a b c d : Bool) → a && b && c && d ≡ true → (a ≡ true) × (b ≡ true) × (c ≡ true) × (d ≡ true)
@@ -112,7 +119,7 @@ PersonTested s c =
 
 -- of a step card
 abbrev pub StepTested : List ℕ → ℕ → Type 0
-StepTested s c = (cardByte s c 1 ≡ 0) × (0 < tagOf s c) × (cardLong s c 8 ≡ 0) × (cardLong s c 12 ≡ 0)
+StepTested s c = (skippedOf s c ≤ 1) × (0 < tagOf s c) × (cardLong s c 8 ≡ 0) × (cardLong s c 12 ≡ 0)
 
 -- of a rule card
 abbrev pub RuleTested : List ℕ → ℕ → ℕ → Type 0
@@ -153,8 +160,8 @@ module _ (s : List ℕ) (c : ℕ) where
   pub step-fields : stepOk s c ≡ true → StepTested s c
   unfolding stepOk
   step-fields h =
-      let t = and-four (eqb (cardByte s c 1) 0) (nonzero (tagOf s c)) (eqb (cardLong s c 8) 0) (eqb (cardLong s c 12) 0) h in
-      (eqb-true _ _ (t .0), above-zero _ (t .1), eqb-true _ _ (t .2), eqb-true _ _ (t .3))
+      let t = and-four (leb (skippedOf s c) 1) (nonzero (tagOf s c)) (eqb (cardLong s c 8) 0) (eqb (cardLong s c 12) 0) h in
+      (leb-true _ _ (t .0), above-zero _ (t .1), eqb-true _ _ (t .2), eqb-true _ _ (t .3))
 
   pub rule-fields : (steps : ℕ) → ruleOk s steps c ≡ true → RuleTested s steps c
   unfolding ruleOk
@@ -192,13 +199,13 @@ module _ (s : List ℕ) (c : ℕ) where
       refl
 
   pub step-in-order : stepOk s c ≡ true → StepInOrder s c
-  step-in-order h = let t = step-fields h in record { tag = t .1; second = t .0; unnamed = eight-zero s c (t .2) (t .3) }
+  step-in-order h = let t = step-fields h in record { tag = t .1; skipped = one-or-none (skippedOf s c) (t .0); unnamed = eight-zero s c (t .2) (t .3) }
 
   pub step-true : StepInOrder s c → stepOk s c ≡ true
   unfolding stepOk
   step-true h =
       rw (
-        eq-eqb (cardByte s c 1) 0 (h .second),
+        le-leb (skippedOf s c) 1 (at-most-one (skippedOf s c) (h .skipped)),
         ne-eqb (tagOf s c) 0 (not-zero (h .tag)),
         eq-eqb (cardLong s c 8) 0 (low-zero s c (h .unnamed)),
         eq-eqb (cardLong s c 12) 0 (high-zero s c (h .unnamed)),

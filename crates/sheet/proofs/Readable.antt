@@ -9,10 +9,13 @@ use lib.ListN.{length, getD}
 use borrow.Author.Tests.{eqb-true, eqb-false, eq-eqb, ltb-true, ltb-false, not-false}
 use Rattle.bits.specs.Below.{any}
 use Rattle.bits.proofs.Below.{by-cases, first-none}
-use Rattle.bits.proofs.Counting.{any-none}
+use Rattle.bits.specs.Word.{hasBit}
+use Rattle.bits.proofs.Counting.{any-none, count-le}
+use Rattle.bits.proofs.Masks.{size-below}
 use Rattle.card.specs.Layout.{personKind, stepKind, ruleKind}
-use Rattle.card.specs.Fields.{personOk, stepOk, ruleOk, tagOf, shopOf, benchOf, permittedOf, ruleKindOf, levelOf, limitOf, scopeOf, limitOk, scopeSize, onlyBelow}
+use Rattle.card.specs.Fields.{personOk, stepOk, ruleOk, tagOf, shopOf, benchOf, permittedOf, skippedOf, ruleKindOf, levelOf, limitOf, scopeOf, limitOk, scopeSize, onlyBelow}
 use Rattle.card.proofs.ByKind.{fields-person, fields-step, fields-rule}
+use Rattle.card.proofs.Limits.{limit-cases}
 use Rattle.sheet.specs.Read.{Read, job, fault, firstClash, firstLate, sameTag, benchMoved, readSheet}
 use Rattle.sheet.specs.Answer.{answer, jobOf, table, sheetOf}
 use Rattle.sheet.specs.Readable.{ReadableJob, ReadSheet}
@@ -28,6 +31,13 @@ pub no-clash : (n : ℕ) (clash : ℕ → ℕ → Bool) → n ≤ firstClash n c
 unfolding firstClash
 no-clash n clash h j k l m =
     any-none k (λ i. clash i k) (first-none n (λ i. any i (λ x. clash x i)) k (omega arith)) j l
+
+-- a limit is at most the number of steps
+limit-few : (kind limit scope steps : ℕ) → steps ≤ 12 → limitOk kind limit (scopeSize scope) ≡ true → onlyBelow steps scope ≡ true → limit ≤ 12
+limit-few kind limit scope steps few h only =
+    let e = size-below steps 16 scope (omega arith) (below-power steps scope only) in
+    let l = count-le steps (hasBit scope) in
+    limit-cases kind limit (scopeSize scope) h (λ a b c d. omega arith) (λ a b c d f. omega arith)
 
 module _ (s people steps rules : List ℕ) (n : ℕ) (p : Passes s n people steps rules) where
   pub person-card : (k : ℕ) → k < length people → personOk s (getD people k 0) ≡ true
@@ -72,17 +82,17 @@ module _ (s people steps rules : List ℕ) (n : ℕ) (p : Passes s n people step
   unfolding jobOf
   readable-job =
       let c = chains s n people steps rules p in
-      let x = p .people-some in let y = p .steps-some in
+      let x = p .people-some in
       record {
         people-some = omega arith;
         people-most = c .people-chain .short;
-        steps-some = omega arith;
         steps-most = c .steps-chain .short;
         rules-most = c .rules-chain .short;
         sized =
             record {
               person-tag = length-table 64 (tagOf s) people (c .people-chain .short);
               step-tag = length-table 12 (tagOf s) steps (c .steps-chain .short);
+              skipped = length-table 64 (skippedOf s) steps (omega (arith, c .steps-chain .short));
               shop = length-table 64 (shopOf s) people (c .people-chain .short);
               bench = length-table 64 (benchOf s) people (c .people-chain .short);
               permitted = length-table 64 (permittedOf s) people (c .people-chain .short);
@@ -106,10 +116,7 @@ module _ (s people steps rules : List ℕ) (n : ℕ) (p : Passes s n people step
               level-from = at 64 (levelOf s) rules k l (λ (v : ℕ). 1 ≤ v) (t .1);
               level-to = at 64 (levelOf s) rules k l (λ (v : ℕ). v ≤ 3) (t .2);
               scope = at 64 (scopeOf s) rules k l (λ (v : ℕ). v < 2 ^ length steps) (below-power (length steps) _ (t .3));
-              limit =
-                  at 64 (ruleKindOf s) rules k l (λ (v : ℕ). limitOk v (getD (table 64 (limitOf s) rules) k 0) (scopeSize (getD (table 64 (scopeOf s) rules) k 0)) ≡ true)
-                  (at 64 (limitOf s) rules k l (λ (v : ℕ). limitOk (ruleKindOf s (getD rules k 0)) v (scopeSize (getD (table 64 (scopeOf s) rules) k 0)) ≡ true)
-                  (at 64 (scopeOf s) rules k l (λ (v : ℕ). limitOk (ruleKindOf s (getD rules k 0)) (limitOf s (getD rules k 0)) (scopeSize v) ≡ true) (t .0)));
+              limit = at 64 (limitOf s) rules k l (λ (v : ℕ). v ≤ 12) (limit-few _ _ (scopeOf s (getD rules k 0)) (length steps) (c .steps-chain .short) (t .0) (t .3));
             };
         person-tags = λ i k l m e.
             eqb-false _ _ (no-clash (length people) (sameTag s people) (p .people-tags) i k l m)
@@ -129,7 +136,6 @@ fewer-rules r l =
     record {
       people-some = r .people-some;
       people-most = r .people-most;
-      steps-some = r .steps-some;
       steps-most = r .steps-most;
       rules-most = omega (arith, r .rules-most);
       sized = r .sized;

@@ -2,7 +2,7 @@
 use mathlib.Core.List.{List, map, _++_}
 use Prim.Native.Nat.{ℕ, _+_, _-_}
 use lib.ListN.{length, replicate}
-use Rattle.card.specs.Fields.{tagOf, shopOf, benchOf, permittedOf, ruleKindOf, levelOf, limitOf, scopeOf}
+use Rattle.card.specs.Fields.{tagOf, shopOf, benchOf, permittedOf, skippedOf, ruleKindOf, levelOf, limitOf, scopeOf}
 use Rattle.sheet.specs.Read.{Read, job, fault, readSheet}
 use Rattle.sheet.specs.declared.SheetJob.{SheetJob}
 use Rattle.sheet.specs.declared.Sheet.{Sheet}
@@ -18,6 +18,7 @@ jobOf s people steps rules =
     record {
       «person_tag» = table 64 (tagOf s) people;
       «step_tag» = table 12 (tagOf s) steps;
+      skipped = table 64 (skippedOf s) steps;
       shop = table 64 (shopOf s) people;
       bench = table 64 (benchOf s) people;
       permitted = table 64 (permittedOf s) people;
@@ -36,6 +37,7 @@ noJob =
     record {
       «person_tag» = zeros 64;
       «step_tag» = zeros 12;
+      skipped = zeros 64;
       shop = zeros 64;
       bench = zeros 64;
       permitted = zeros 64;

@@ -8,7 +8,7 @@ use Prim.Native.Nat.{ℕ, zero, suc, _/_, _%_, _<_, _≤_}
 use lib.ListN.{length}
 use Rattle.bits.specs.Word.{hasBit}
 use Rattle.card.specs.Layout.{cardByte, cardWord, kindOf, nextOf, headerKind, personKind, stepKind, ruleKind}
-use Rattle.card.specs.Fields.{firstPerson, firstStep, firstRule, tagOf, shopOf, benchOf, permittedOf, ruleKindOf, levelOf, limitOf, scopeOf, scopeSize}
+use Rattle.card.specs.Fields.{firstPerson, firstStep, firstRule, tagOf, shopOf, benchOf, permittedOf, skippedOf, ruleKindOf, levelOf, limitOf, scopeOf, scopeSize}
 use Rattle.card.specs.Refusals.{lengthFault, headerFault, indexFault, reachedFault, kindFault, fieldFault, countFault, tagFault, benchFault, looseFault}
 
 -- "the number of cards in the file", "the length / 16"
@@ -95,10 +95,10 @@ pub record PersonInOrder (s : List ℕ) (c : ℕ) : Type 0 where
   pub second : cardByte s c 1 ≡ 0
   pub unnamed : (b : ℕ) → 14 ≤ b → b < 16 → cardByte s c b ≡ 0
 
--- "Step: bytes 4-7 tag, not zero."
+-- "Step: bytes 4-7 tag, not zero." "Byte 1 of a step card may be 1, skipped."
 pub record StepInOrder (s : List ℕ) (c : ℕ) : Type 0 where
   pub tag : 0 < tagOf s c
-  pub second : cardByte s c 1 ≡ 0
+  pub skipped : (skippedOf s c ≡ 0) ⊎ (skippedOf s c ≡ 1)
   pub unnamed : (b : ℕ) → 8 ≤ b → b < 16 → cardByte s c b ≡ 0
 
 -- the limit that a kind of rule may have with so many steps in scope

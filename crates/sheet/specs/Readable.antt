@@ -1,13 +1,13 @@
 -- What is known of a sheet that was read: of its cards, and of its job. The second is all that the crates above know of a job.
 -- Assumes nothing.
-use mathlib.Core.Bool.{false, true}
+use mathlib.Core.Bool.{false}
 use mathlib.Core.List.{List, _++_}
 use mathlib.Core.Path.{_≡_}
 use Prim.Native.Nat.{ℕ, _/_, _^_, _<_, _≤_}
 use lib.ListN.{length, getD}
 use Rattle.bits.specs.Member.{member}
 use Rattle.card.specs.Layout.{personKind, stepKind, ruleKind}
-use Rattle.card.specs.Fields.{firstPerson, firstStep, firstRule, limitOk, scopeSize}
+use Rattle.card.specs.Fields.{firstPerson, firstStep, firstRule}
 use Rattle.chain.specs.Answer.{chainOf}
 use Rattle.chain.specs.Chained.{Chained}
 use Rattle.sheet.specs.Answer.{jobOf}
@@ -40,13 +40,13 @@ pub record RuleFields (steps : ℕ) (j : SheetJob) (i : ℕ) : Type 0 where
   pub level-from : 1 ≤ getD (j .«rule_level») i 0
   pub level-to : getD (j .«rule_level») i 0 ≤ 3
   pub scope : getD (j .«rule_scope») i 0 < 2 ^ steps
-  -- the kind, and what limit and size of the scope it may have
-  pub limit : limitOk (getD (j .«rule_kind») i 0) (getD (j .«rule_limit») i 0) (scopeSize (getD (j .«rule_scope») i 0)) ≡ true
+  pub limit : getD (j .«rule_limit») i 0 ≤ 12
 
 -- the arrays have their sizes
 pub record JobSized (j : SheetJob) : Type 0 where
   pub person-tag : length (j .«person_tag») ≡ 64
   pub step-tag : length (j .«step_tag») ≡ 12
+  pub skipped : length (j .skipped) ≡ 64
   pub shop : length (j .shop) ≡ 64
   pub bench : length (j .bench) ≡ 64
   pub permitted : length (j .permitted) ≡ 64
@@ -55,11 +55,10 @@ pub record JobSized (j : SheetJob) : Type 0 where
   pub level : length (j .«rule_level») ≡ 64
   pub limit : length (j .«rule_limit») ≡ 64
 
--- a job as a readable sheet gives it
+-- a job as a readable sheet gives it, with all its steps or with those that remain
 pub record ReadableJob (people steps rules : ℕ) (j : SheetJob) : Type 0 where
   pub people-some : 1 ≤ people
   pub people-most : people ≤ 64
-  pub steps-some : 1 ≤ steps
   pub steps-most : steps ≤ 12
   pub rules-most : rules ≤ 64
   pub sized : JobSized j

@@ -4,6 +4,7 @@ ghost use Rattle.sheet.specs.Answer.{sheetOf};
 ghost use Rattle.sheet.specs.Read.{lengthOk};
 use bits::sizes::CARD;
 use bits::sizes::MOST_BYTES;
+use bits::sizes::MOST_CHAIN;
 use bits::sizes::MOST_PEOPLE;
 use bits::sizes::MOST_RULES;
 use bits::sizes::MOST_STEPS;
@@ -25,6 +26,8 @@ mod tables;
 pub struct SheetJob {
     pub person_tag: [u32; MOST_PEOPLE],
     pub step_tag: [u32; MOST_STEPS],
+    // 1 for a step that is skipped.
+    pub skipped: [u8; MOST_CHAIN],
     pub shop: PersonWords,
     pub bench: PersonWords,
     pub permitted: PersonWords,

@@ -46,6 +46,7 @@ pub fn refused(refusal: u32, card: usize) -> Sheet
         job: SheetJob {
             person_tag: [0; MOST_PEOPLE],
             step_tag: [0; MOST_STEPS],
+            skipped: [0; MOST_CHAIN],
             shop: [0; MOST_PEOPLE],
             bench: [0; MOST_PEOPLE],
             permitted: [0; MOST_PEOPLE],
@@ -81,9 +82,11 @@ fn fill_job(
     let rule_kind = bytes(s, rules, r, place::RULE);
     let rule_level = bytes(s, rules, r, place::LEVEL);
     let rule_limit = bytes(s, rules, r, place::LIMIT);
+    let skipped = bytes(s, steps, n, place::SKIPPED);
     SheetJob {
         person_tag,
         step_tag,
+        skipped,
         shop,
         bench,
         permitted,

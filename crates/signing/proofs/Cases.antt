@@ -11,8 +11,8 @@ use borrow.Author.Tests.{eq-eqb, eqb-true, ltb-true, ltb-false, ne-eqb}
 use Rattle.bits.proofs.Below.{by-cases, true-false, first-has, first-none}
 use Rattle.card.specs.Fields.{tagOf}
 use Rattle.card.specs.Refusals.{unknownFault}
-use Rattle.sheet.proofs.Fill.{getD-table}
-use Rattle.sheet.specs.Answer.{jobOf}
+use Rattle.remaining.proofs.Laws.{step-tag-left, person-tag-left}
+use Rattle.remaining.specs.Remaining.{stepsLeft, jobLeft}
 use Rattle.sheet.specs.Read.{job, fault, readSheet}
 use Rattle.workflow.specs.Problem.{May}
 use Rattle.workflow.specs.First.{firstPlan}
@@ -39,28 +39,26 @@ module _ (n : ℕ) (tags : List ℕ) (tag : ℕ) where
 
 module _ (s people steps rules : List ℕ) where
   abbrev step-tags : List ℕ
-  step-tags = jobOf s people steps rules .«step_tag»
+  step-tags = jobLeft s people steps rules .«step_tag»
 
   abbrev person-tags : List ℕ
-  person-tags = jobOf s people steps rules .«person_tag»
+  person-tags = jobLeft s people steps rules .«person_tag»
 
-  step-tag-is : (t : ℕ) → t < length steps → getD step-tags t 0 ≡ tagOf s (getD steps t 0)
-  unfolding jobOf
-  step-tag-is t l = getD-table 12 (tagOf s) steps t l
+  step-tag-is : (t : ℕ) → t < length (stepsLeft s steps) → getD step-tags t 0 ≡ tagOf s (getD (stepsLeft s steps) t 0)
+  step-tag-is t l = step-tag-left s people steps rules t l
 
   person-tag-is : (p : ℕ) → p < length people → getD person-tags p 0 ≡ tagOf s (getD people p 0)
-  unfolding jobOf
-  person-tag-is p l = getD-table 64 (tagOf s) people p l
+  person-tag-is p l = person-tag-left s people steps rules p l
 
   module _ (a : ℕ) where
     abbrev step-at : ℕ
-    step-at = placeOf (length steps) step-tags a
+    step-at = placeOf (length (stepsLeft s steps)) step-tags a
 
-    step-named : step-at < length steps → Names s steps a step-at
-    step-named l = record { below = l; is = sym (step-tag-is step-at l) ∙ place-has (length steps) step-tags a l }
+    step-named : step-at < length (stepsLeft s steps) → Names s (stepsLeft s steps) a step-at
+    step-named l = record { below = l; is = sym (step-tag-is step-at l) ∙ place-has (length (stepsLeft s steps)) step-tags a l }
 
-    no-step : length steps ≤ step-at → (t : ℕ) → Names s steps a t → ⊥
-    no-step l t w = place-none (length steps) step-tags a l t (w .below) (step-tag-is t (w .below) ∙ w .is)
+    no-step : length (stepsLeft s steps) ≤ step-at → (t : ℕ) → Names s (stepsLeft s steps) a t → ⊥
+    no-step l t w = place-none (length (stepsLeft s steps)) step-tags a l t (w .below) (step-tag-is t (w .below) ∙ w .is)
 
     abbrev person-at : ℕ
     person-at = placeOf (length people) person-tags a
@@ -83,14 +81,14 @@ module _ (s people steps rules : List ℕ) where
     may = bound (mayDo s people steps rules) (set (j .signer) t (suc p))
 
     sign-is : signAnswer j a b
-        ≡ unlessRefused (firstRefusal (eqb t (length steps) || eqb p (length people)) (not (isOpen (j .signer) t))) j
+        ≡ unlessRefused (firstRefusal (eqb t (length (stepsLeft s steps)) || eqb p (length people)) (not (isOpen (j .signer) t))) j
         (decided t p j (firstPlan (instanceIn s people steps rules) may))
     unfolding signRead signOf
     sign-is =
         ap (λ (x : List ℕ). signRead j a b (readSheet x)) h ∙ ap (signRead j a b) e
-        ∙ ap (λ (x : List ℕ). signOf (length people) (length steps) (length rules) (jobOf x people steps rules) j a b) h
+        ∙ ap (λ (x : List ℕ). signOf (length people) (length (stepsLeft x steps)) (length rules) (jobLeft x people steps rules) j a b) h
 
-    sign-with : (x y z : Bool) → eqb t (length steps) ≡ x → eqb p (length people) ≡ y → isOpen (j .signer) t ≡ z
+    sign-with : (x y z : Bool) → eqb t (length (stepsLeft s steps)) ≡ x → eqb p (length people) ≡ y → isOpen (j .signer) t ≡ z
         → signAnswer j a b ≡ unlessRefused (firstRefusal (x || y) (not z)) j (decided t p j (firstPlan (instanceIn s people steps rules) may))
     sign-with x y z dx dy dz =
         sign-is
@@ -98,9 +96,9 @@ module _ (s people steps rules : List ℕ) where
         (λ (u v : Bool). unlessRefused (firstRefusal u v) j (decided t p j (firstPlan (instanceIn s people steps rules) may)))
         (ap₂ (λ (u v : Bool). u || v) dx dy) (ap not dz)
 
-    sign-known : t < length steps → p < length people → SignCase s people steps rules j a b (signAnswer j a b)
+    sign-known : t < length (stepsLeft s steps) → p < length people → SignCase s people steps rules j a b (signAnswer j a b)
     sign-known l m =
-        let step-on = ne-eqb t (length steps) (λ d. absurd (omega arith)) in
+        let step-on = ne-eqb t (length (stepsLeft s steps)) (λ d. absurd (omega arith)) in
         let person-on = ne-eqb p (length people) (λ d. absurd (omega arith)) in
         let posed = instanceIn s people steps rules in
         let asks = bound-satisfiable posed (mayDo s people steps rules) (set (j .signer) t (suc p)) in
@@ -113,21 +111,21 @@ module _ (s people steps rules : List ℕ) where
 
     pub sign-cases : SignCase s people steps rules j a b (signAnswer j a b)
     sign-cases =
-        let lt = place-le (length steps) step-tags a in
+        let lt = place-le (length (stepsLeft s steps)) step-tags a in
         let lp = place-le (length people) person-tags b in
-        by-cases (ltb t (length steps))
+        by-cases (ltb t (length (stepsLeft s steps)))
         (λ l.
         by-cases (ltb p (length people))
-        (λ m. sign-known (ltb-true t (length steps) l) (ltb-true p (length people) m))
+        (λ m. sign-known (ltb-true t (length (stepsLeft s steps)) l) (ltb-true p (length people) m))
         (λ m.
         let n = ltb-false p (length people) m in
-        let on = ltb-true t (length steps) l in
+        let on = ltb-true t (length (stepsLeft s steps)) l in
         unknown (λ x y u v. no-person b n y v)
-        (sign-with false true (isOpen (j .signer) t) (ne-eqb t (length steps) (λ d. absurd (omega arith))) (eq-eqb p (length people) (omega arith)) refl)))
+        (sign-with false true (isOpen (j .signer) t) (ne-eqb t (length (stepsLeft s steps)) (λ d. absurd (omega arith))) (eq-eqb p (length people) (omega arith)) refl)))
         (λ l.
-        let n = ltb-false t (length steps) l in
+        let n = ltb-false t (length (stepsLeft s steps)) l in
         unknown (λ x y u v. no-step a n x u)
-        (sign-with true (eqb p (length people)) (isOpen (j .signer) t) (eq-eqb t (length steps) (omega arith)) refl refl))
+        (sign-with true (eqb p (length people)) (isOpen (j .signer) t) (eq-eqb t (length (stepsLeft s steps)) (omega arith)) refl refl))
 
 -- a job that holds no readable sheet: every step is unknown
 pub sign-unreadable : (j : JobState) (a b f c : ℕ) → readSheet (held j) ≡ fault f c → signAnswer j a b ≡ refusedSigning unknownFault j

@@ -12,7 +12,7 @@ use borrow.Author.Tests.{eq-eqb, ne-eqb, eqb-false}
 use Rattle.bits.proofs.Below.{first-le}
 use Rattle.card.specs.Refusals.{unknownFault, ungrantedFault}
 use Rattle.sheet.proofs.Reading.{the-type}
-use Rattle.sheet.specs.Answer.{sheetOf}
+use Rattle.remaining.specs.Remaining.{remainingOf}
 use Rattle.sheet.specs.Readable.{ReadableJob}
 use Rattle.sheet.specs.declared.SheetJob as sheet
 use Rattle.sheet.specs.declared.Sheet.{Sheet}
@@ -83,7 +83,7 @@ pub record Tested (j : JobState) (step person people steps rules : ℕ) (posed :
   pub is : signAnswer j step person
       ≡ unlessRefused f j (decided t p j (firstPlan (instanceOf people steps rules posed) (bound (mayOf posed) (set (j .signer) t (suc p)))))
 
-module _ (j : JobState) (step person : ℕ) (a : Sheet) (e : a ≡ sheetOf (held j)) where
+module _ (j : JobState) (step person : ℕ) (a : Sheet) (e : a ≡ remainingOf (held j)) where
   pub sign-unread : OneOf (1 ∷ []) (tagOf the-type (a .reading)) → concluded j unknownFault (j .signer) ≡ signAnswer j step person
   unfolding signRead
   sign-unread k = sym (ap (signRead j step person) (was-refused (held j) a e k .3))

@@ -11,7 +11,8 @@ use Rattle.card.specs.Refusals.{planFault}
 use Rattle.sheet.proofs.InOrder.{length-right}
 use Rattle.sheet.proofs.Passes.{sheet-passes}
 use Rattle.sheet.proofs.Reading.{the-type}
-use Rattle.sheet.specs.Answer.{sheetOf, zeros}
+use Rattle.sheet.specs.Answer.{zeros}
+use Rattle.remaining.specs.Remaining.{remainingOf}
 use Rattle.sheet.specs.declared.SheetJob as sheet
 use Rattle.sheet.specs.declared.Sheet.{Sheet}
 use Rattle.sheet.specs.declared.Reading.the-variants.{Readable}
@@ -39,7 +40,7 @@ bound-nobody j may w = satisfiable-mono j (bound may (zeros 12)) may (λ s p l k
 nobody-bound : (j : Job) (may : May) → Satisfiable j may → Satisfiable j (bound may (zeros 12))
 nobody-bound j may w = satisfiable-mono j may (bound may (zeros 12)) (λ s p l k h. ap₂ (λ (x : Bool) (n : ℕ). x && leftTo n p) h (zero-at 12 s)) w
 
-module _ (s : List ℕ) (a : Sheet) (e : a ≡ sheetOf s) (j : JobState) where
+module _ (s : List ℕ) (a : Sheet) (e : a ≡ remainingOf s) (j : JobState) where
   pub open-refused : OneOf (1 ∷ []) (tagOf the-type (a .reading)) → (n : ℕ) → n ≡ numberOf (a .reading) → record { number = n; job = j } ≡ openAnswer j s
   unfolding openRead
   open-refused k n d =

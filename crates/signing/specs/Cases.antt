@@ -7,6 +7,7 @@ use lib.ListN.{length, getD, set}
 use Rattle.card.specs.Fields.{tagOf}
 use Rattle.card.specs.Refusals.{planFault, unknownFault, signedFault, ungrantedFault}
 use Rattle.sheet.specs.Read.{job, fault, readSheet}
+use Rattle.remaining.specs.Remaining.{stepsLeft}
 use Rattle.workflow.specs.Problem.{Plan, Valid, Satisfiable}
 use Rattle.instance.specs.Instance.{instanceIn, mayDo}
 use Rattle.signing.specs.Bound.{isOpen, AgreesWith}
@@ -34,18 +35,18 @@ pub record Names (s cards : List ℕ) (tag k : ℕ) : Type 0 where
 -- "some valid plan agrees": it gives every signed step to its signer
 abbrev pub CanFinish : List ℕ → List ℕ → List ℕ → List ℕ → List ℕ → Type 0
 CanFinish s people steps rules signer =
-    (π : Plan) × Valid (instanceIn s people steps rules) (mayDo s people steps rules) π × AgreesWith (length steps) signer π
+    (π : Plan) × Valid (instanceIn s people steps rules) (mayDo s people steps rules) π × AgreesWith (length (stepsLeft s steps)) signer π
 
 -- the signing of the step with tag `a` by the person with tag `b`, on the job j that holds the sheet s
 pub data SignCase (s people steps rules : List ℕ) (j : JobState) (a b : ℕ) (r : Answered) : Type 0 where
-  -- "It refuses with 14 an unknown step or person"
-  unknown : ((t p : ℕ) → Names s steps a t → Names s people b p → ⊥) → r ≡ refusedSigning unknownFault j → SignCase s people steps rules j a b r
+  -- "It refuses with 14 an unknown step or person"; "for signing, a skipped step is unknown"
+  unknown : ((t p : ℕ) → Names s (stepsLeft s steps) a t → Names s people b p → ⊥) → r ≡ refusedSigning unknownFault j → SignCase s people steps rules j a b r
   -- "with 15 a signed step"
-  signed : (t p : ℕ) → Names s steps a t → Names s people b p → (isOpen (j .signer) t ≡ true → ⊥) → r ≡ refusedSigning signedFault j
+  signed : (t p : ℕ) → Names s (stepsLeft s steps) a t → Names s people b p → (isOpen (j .signer) t ≡ true → ⊥) → r ≡ refusedSigning signedFault j
       → SignCase s people steps rules j a b r
   -- "with 16 any other signing not granted"
-  ungranted : (t p : ℕ) → Names s steps a t → Names s people b p → isOpen (j .signer) t ≡ true
+  ungranted : (t p : ℕ) → Names s (stepsLeft s steps) a t → Names s people b p → isOpen (j .signer) t ≡ true
       → (CanFinish s people steps rules (set (j .signer) t (suc p)) → ⊥) → r ≡ refusedSigning ungrantedFault j → SignCase s people steps rules j a b r
   -- "granted exactly when some valid plan agrees with it and with all granted before"
-  given : (t p : ℕ) → Names s steps a t → Names s people b p → isOpen (j .signer) t ≡ true
+  given : (t p : ℕ) → Names s (stepsLeft s steps) a t → Names s people b p → isOpen (j .signer) t ≡ true
       → CanFinish s people steps rules (set (j .signer) t (suc p)) → r ≡ granted t p j → SignCase s people steps rules j a b r

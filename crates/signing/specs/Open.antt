@@ -3,7 +3,7 @@ use mathlib.Core.List.{List}
 use Prim.Native.Nat.{ℕ}
 use lib.ListN.{length}
 use Rattle.card.specs.Refusals.{planFault}
-use Rattle.sheet.specs.Answer.{jobOf}
+use Rattle.remaining.specs.Remaining.{stepsLeft, jobLeft}
 use Rattle.sheet.specs.Read.{Read, job, fault, readSheet}
 use Rattle.workflow.specs.First.{Found, found, nothing, firstPlan}
 use Rattle.instance.specs.Instance.{instanceOf, mayOf}
@@ -24,7 +24,7 @@ ifPlan s j nothing = refusedOpening planFault 0 j
 unfoldable pub openRead : JobState → List ℕ → Read → Answered
 openRead j s (job people steps rules) =
     ifPlan s j
-    (firstPlan (instanceOf (length people) (length steps) (length rules) (jobOf s people steps rules)) (mayOf (jobOf s people steps rules)))
+    (firstPlan (instanceOf (length people) (length (stepsLeft s steps)) (length rules) (jobLeft s people steps rules)) (mayOf (jobLeft s people steps rules)))
 openRead j s (fault f c) = refusedOpening f c j
 
 -- the opening of a job with a sheet

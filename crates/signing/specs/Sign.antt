@@ -6,7 +6,7 @@ use lib.Dec.{eqb, ltb}
 use lib.ListN.{length, getD, set}
 use Rattle.bits.specs.Below.{first}
 use Rattle.card.specs.Refusals.{unknownFault, signedFault, ungrantedFault}
-use Rattle.sheet.specs.Answer.{jobOf}
+use Rattle.remaining.specs.Remaining.{stepsLeft, jobLeft}
 use Rattle.sheet.specs.Read.{Read, job, fault, readSheet}
 use Rattle.sheet.specs.declared.SheetJob as sheet
 use Rattle.workflow.specs.First.{Found, found, nothing, firstPlan}
@@ -60,7 +60,7 @@ signOf people steps rules posed j step person =
 -- of what the job holds: where that is no readable sheet every step is unknown
 unfoldable pub signRead : JobState → ℕ → ℕ → Read → Answered
 signRead j step person (job people steps rules) =
-    signOf (length people) (length steps) (length rules) (jobOf (held j) people steps rules) j step person
+    signOf (length people) (length (stepsLeft (held j) steps)) (length rules) (jobLeft (held j) people steps rules) j step person
 signRead j step person (fault f c) = refusedSigning unknownFault j
 
 -- the signing of a step by a person, both by tag

@@ -1,13 +1,14 @@
 // The sheet that a job holds.
 use super::JobState;
 use bits::sizes::MOST_BYTES;
+use remaining::read_job;
 use sheet::Sheet;
-use sheet::read_sheet;
 ghost use mathlib.Core.List.{_++_};
 ghost use mathlib.Core.Path.{_≡_};
 ghost use Prim.Native.Nat.{_-_, _≤_};
 ghost use lib.ListN.{length};
-ghost use Rattle.sheet.specs.Answer.{sheetOf, zeros};
+ghost use Rattle.sheet.specs.Answer.{zeros};
+ghost use Rattle.remaining.specs.Remaining.{remainingOf};
 ghost use Rattle.signing.specs.State.{heldLength, held};
 
 // The length of the sheet held. One that the job has no room for is none.
@@ -22,11 +23,11 @@ fn held_length(len: u32) -> usize
 
 // Reads it.
 pub fn read_held(job: JobState) -> Sheet
-    ensures { λ r. ⌜ r ≡ sheetOf (held job) ⌝ }
+    ensures { λ r. ⌜ r ≡ remainingOf (held job) ⌝ }
 {
     let sheet = job.sheet;
     let len = held_length(job.sheet_len);
-    read_sheet(&sheet[..len])
+    read_job(&sheet[..len])
 }
 
 // A sheet, and zeros after it.

@@ -17,7 +17,7 @@ pub struct JobState {
     // The sheet of the job, zeros after its end.
     pub sheet_len: u32,
     pub sheet: [u8; MOST_BYTES],
-    // Who signed each step, counted from 1 in crew order; 0 for an open step.
+    // Who signed each step that remains, counted from 1 in crew order; 0 for an open step.
     pub signer: [u8; MOST_STEPS],
 }
 

@@ -7,8 +7,8 @@ use answer::number;
 use answer::returned;
 use bits::sizes::MOST_STEPS;
 use card::refusal::PLAN_FAULT;
+use remaining::read_job;
 use sheet::Reading;
-use sheet::read_sheet;
 ghost use mathlib.Core.Path.{_≡_};
 ghost use Rattle.signing.specs.Open.{openAnswer};
 
@@ -16,7 +16,7 @@ ghost use Rattle.signing.specs.Open.{openAnswer};
 pub fn open(job: JobState, sheet: &[u8]) -> Answered
     ensures { λ r. ⌜ r ≡ openAnswer job (now (sheet .entry)) ⌝ }
 {
-    let read = read_sheet(sheet);
+    let read = read_job(sheet);
     let reading = read.reading;
     let Reading::Readable {
         people,

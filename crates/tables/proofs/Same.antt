@@ -1,47 +1,49 @@
 -- The arrays pose the problem of the sheet: the same plans are valid. Assumes nothing.
-use mathlib.Core.Bool.{Bool, _&&_}
-use mathlib.Core.List.{List}
+use mathlib.Core.Bool.{Bool, true, false, not, _&&_}
+use mathlib.Core.List.{List, [], _∷_, _++_}
 use mathlib.Core.Path.{_≡_, refl, sym, _∙_, ap, subst}
 use Prim.Native.Nat.{ℕ, zero, suc, _+_, _^_, _<_, _≤_}
 use native.Mathlib.Omega.{arith}
 use native.Mathlib.Nat.{not-suc-le-zero}
 use native.Mathlib.Numerals.{add-one}
-use lib.ListN.{length, getD, set, length-set}
-use lib.Seq.{getD-set-same, getD-set-other}
-use borrow.Author.Tests.{lt-ltb}
+use lib.Count.{ones}
+use lib.Dec.{leb, ltb}
+use lib.ListN.{length, getD, set, length-set, List·getD-append}
+use lib.Pow.{pow-mono}
+use lib.Seq.{getD-at, getD-set-same, getD-set-other}
+use borrow.Author.Tests.{leb-true, leb-false, le-leb, lt-leb, le-ltb, lt-ltb, ltb-true, ltb-false}
 use Rattle.bits.specs.Below.{count}
 use Rattle.bits.specs.Word.{hasBit}
-use Rattle.bits.proofs.Below.{below-suc}
-use Rattle.bits.proofs.Counting.{count-le}
+use Rattle.bits.proofs.Below.{by-cases, true-false, below-suc, and-left, and-right}
+use Rattle.bits.proofs.Masks.{ones-count}
+use Rattle.bits.proofs.SetLaws.{has-below}
+use Rattle.remaining.specs.Kept.{keptBelow}
+use Rattle.remaining.proofs.KeptLaws.{kept-step, kept-below, kept-every, kept-few}
 use Rattle.sheet.specs.Readable.{ReadableJob}
 use Rattle.sheet.specs.declared.SheetJob as sheet
-use Rattle.workflow.specs.Problem.{Kind, same, different, atMost, atLeast, Fits, Job, RuleOk, leastOf, mostOf}
+use Rattle.workflow.specs.Problem.{Kind, same, different, atMost, atLeast, Job, Plan, Met, RuleOk, classCount, leastOf, mostOf}
 use Rattle.workflow.specs.Numbered.{kindIn}
-use Rattle.workflow.specs.Same.{Renamed}
+use Rattle.workflow.specs.Same.{SamePlans, Renamed}
+use Rattle.workflow.proofs.Counts.{distinct-le-scope}
+use Rattle.workflow.proofs.Lists.{length-snoc}
+use Rattle.workflow.proofs.Rules.{class-some}
 use Rattle.workflow.proofs.Same.{renamed-same, same-trans}
 use Rattle.pattern.specs.declared.Size.{Size}
-use Rattle.pattern.specs.Given.{Ruled, Classed}
+use Rattle.pattern.specs.Given.{Classed}
 use Rattle.pattern.specs.Number.{numberOf}
 use Rattle.pattern.specs.Pattern.{Refining}
 use Rattle.pattern.specs.Rule.{levelIn, scopeIn}
-use Rattle.pattern.specs.Tables.{classIn, mayIn, ruleIn, jobIn}
+use Rattle.pattern.specs.Tables.{classIn, ruleIn, jobIn}
 use Rattle.pattern.proofs.Number.{number-same, number-tells, number-moves, numbering, numbering-as, number-few}
 use Rattle.levels.specs.declared.Tables.{Tables}
 use Rattle.levels.specs.Trims.{Trims}
-use Rattle.instance.specs.Instance.{instanceOf, mayOf}
-use Rattle.instance.proofs.Laws.{instance-nested, instance-fits, instance-rules}
+use Rattle.instance.specs.Instance.{instanceOf}
+use Rattle.instance.proofs.Laws.{instance-nested, instance-rules}
 use Rattle.tables.specs.Arrays.{MasksOf, wordOf, ClassesOf}
-use Rattle.tables.specs.Posing.{Packable, Packs, PackedRules, Poses, Permits}
+use Rattle.tables.specs.Posing.{Packable, Packs, unbroken, breakable, PackedRules, Poses, Permits}
 use Rattle.tables.proofs.Numbers.{own-number}
 
--- a limit is at most the size of the scope
-limit-fits : (k : Kind) (limit size : ℕ) → Fits k limit size → limit ≤ size
-limit-fits same limit size f = omega arith
-limit-fits different limit size f = omega arith
-limit-fits atMost limit size f = f .2
-limit-fits atLeast limit size f = f .2
-
-pub packable : (people steps rules : ℕ) (j : sheet.SheetJob) → ReadableJob people steps rules j → Packable steps rules (j .«rule_level») (j .«rule_limit»)
+pub packable : (people steps rules : ℕ) (j : sheet.SheetJob) → ReadableJob people steps rules j → Packable steps rules (j .«rule_level») (j .«rule_limit») (j .«rule_scope»)
 packable people steps rules j r =
     record {
       few-steps = r .steps-most;
@@ -49,16 +51,16 @@ packable people steps rules j r =
       levels = r .sized .level;
       limits = r .sized .limit;
       small-level = λ i l. r .rule i l .level-to;
-      small-limit = λ i l.
-          let f = limit-fits (kindIn (getD (j .«rule_kind») i 0)) (getD (j .«rule_limit») i 0) _ (instance-fits people steps rules j r i l) in
-          omega (arith, count-le steps (hasBit (getD (j .«rule_scope») i 0)), r .steps-most);
+      scopes = r .sized .scope;
+      small-limit = λ i l. r .rule i l .limit;
+      small-scope = λ i l. r .rule i l .scope;
     }
 
 module _ (people steps rules : ℕ) (j : sheet.SheetJob) (r : ReadableJob people steps rules j)
     (class : List ℕ) (c : ClassesOf (j .shop) (j .bench) people people class)
-    (rule : List ℕ) (w : PackedRules steps rules (j .«rule_kind») (j .«rule_level») (j .«rule_limit») (j .«rule_scope») rule) where
+    (rule : List ℕ) (number : ℕ) (w : PackedRules steps rules (j .«rule_kind») (j .«rule_level») (j .«rule_limit») (j .«rule_scope») rule number) where
   abbrev size : Size
-  size = record { steps = steps; people = people; levels = 3; rules = rules }
+  size = record { steps = steps; people = people; levels = 3; rules = number }
 
   abbrev asked : Job
   asked = instanceOf people steps rules j
@@ -103,18 +105,28 @@ module _ (people steps rules : ℕ) (j : sheet.SheetJob) (r : ReadableJob people
       numbered q p a b l
       ∙ number-moves people (asked .class q) (classIn class q) (λ x y m n e. class-back q x y a b m n e) (λ x y m n e. class-forth q x y a b m n e) p l
 
-  ok : (i : ℕ) → i < rules → RuleOk steps 3 (ruleIn rule i)
-  ok i l =
-      let k = instance-rules people steps rules j r i l in
-      let e = w .each i l in
-      let z : count steps (hasBit (scopeIn (getD rule i 0))) ≡ count steps (hasBit (getD (j .«rule_scope») i 0))
+  -- a rule that can be broken, by its place on the chain
+  abbrev left-out : ℕ → Bool
+  left-out i = unbroken steps (getD (j .«rule_kind») i 0) (getD (j .«rule_limit») i 0) (getD (j .«rule_scope») i 0)
+
+  abbrev from : ℕ → ℕ
+  from k = getD (breakable steps (j .«rule_kind») (j .«rule_limit») (j .«rule_scope») rules) k 0
+
+  from-below : (k : ℕ) → k < number → from k < rules
+  from-below k l = kept-below left-out rules k (omega (arith, w .all))
+
+  ok : (k : ℕ) → k < number → RuleOk steps 3 (ruleIn rule k)
+  ok k l =
+      let b = instance-rules people steps rules j r (from k) (from-below k l) in
+      let e = w .each k l in
+      let z : count steps (hasBit (scopeIn (getD rule k 0))) ≡ count steps (hasBit (getD (j .«rule_scope») (from k) 0))
       = ap (λ (m : ℕ). count steps (hasBit m)) (e .its-scope)
       in
       record {
-        from = omega (arith, e .its-level, k .from);
-        to = omega (arith, e .its-level, k .to);
-        reachable = omega (arith, e .its-least, k .reachable);
-        bounded = omega (arith, e .its-most, k .bounded);
+        from = omega (arith, e .its-level, b .from);
+        to = omega (arith, e .its-level, b .to);
+        reachable = omega (arith, e .its-least, b .reachable);
+        bounded = omega (arith, e .its-most, b .bounded);
       }
 
   pub whole-classed : Classed size class rule
@@ -123,9 +135,9 @@ module _ (people steps rules : ℕ) (j : sheet.SheetJob) (r : ReadableJob people
         ruled = record {
           few-steps = r .steps-most;
           few-levels = omega arith;
-          few-rules = r .rules-most;
+          few-rules = omega (arith, w .all, kept-few left-out rules, r .rules-most);
           sized = w .sized;
-          scopes = λ i l. subst (λ (m : ℕ). m < 2 ^ steps) (sym (w .each i l .its-scope)) (r .rule i l .scope);
+          scopes = λ k l. subst (λ (m : ℕ). m < 2 ^ steps) (sym (w .each k l .its-scope)) (r .rule (from k) (from-below k l) .scope);
           rule-ok = ok;
         };
         few-people = r .people-most;
@@ -134,20 +146,59 @@ module _ (people steps rules : ℕ) (j : sheet.SheetJob) (r : ReadableJob people
         numbers = numbers;
       }
 
-  renamed : Renamed asked posed
+  -- the job with the rules that can be broken alone
+  abbrev shorter : Job
+  shorter = record { steps = steps; people = people; levels = 3; class = asked .class; rules = number; rule = λ k. asked .rule (from k) }
+
+  -- the others are met by every plan
+  always-met : (i : ℕ) → left-out i ≡ true → (π : Plan) → Met asked (asked .rule i) π
+  always-met i h π =
+      let scope = hasBit (getD (j .«rule_scope») i 0) in
+      let one : count steps scope ≤ 1 = leb-true _ _ (and-left (leb (count steps scope) 1) _ h) in
+      let high : count steps scope ≤ asked .rule i .most = leb-true _ _ (and-right (leb (count steps scope) 1) _ h) in
+      let few : classCount asked (asked .rule i) π ≤ count steps scope = distinct-le-scope steps scope (λ s. asked .class (asked .rule i .level) (π s)) in
+      record {
+        least =
+            by-cases (ltb 0 (count steps scope))
+            (λ t. let some : 1 ≤ classCount asked (asked .rule i) π = class-some steps scope (λ s. asked .class (asked .rule i .level) (π s)) (ltb-true 0 (count steps scope) t) in omega arith)
+            (λ t. let none = ltb-false 0 (count steps scope) t in omega arith);
+        most = omega arith;
+      }
+
+  shortened : SamePlans asked shorter
+  shortened =
+      record {
+        steps = refl;
+        people = refl;
+        valid = λ may π. (
+          λ v. record { within = v .within; authorised = v .authorised; eligible = λ k l. v .eligible (from k) (from-below k l) },
+          λ v.
+              record {
+                within = v .within;
+                authorised = v .authorised;
+                eligible = λ i l.
+                    by-cases (left-out i) (λ h. always-met i h π)
+                    (λ h.
+                    let k = kept-every left-out rules i l h in
+                    subst (λ (x : ℕ). Met asked (asked .rule x) π) (k .2) (v .eligible (k .0) (omega (arith, k .1, w .all))));
+              },
+        );
+      }
+
+  renamed : Renamed shorter posed
   renamed =
       record {
         steps = refl;
         people = refl;
         rules = refl;
-        least = λ i l. w .each i l .its-least;
-        most = λ i l. w .each i l .its-most;
-        scope = λ i s l. ap (λ (m : ℕ). hasBit m s) (w .each i l .its-scope);
-        classes = λ i p p′ l a b.
-            let k = ok i l in
-            let e = w .each i l .its-level in (
-              λ x. class-back (levelIn (getD rule i 0)) p p′ (k .from) (k .to) a b (subst (λ (q : ℕ). asked .class q p ≡ asked .class q p′) (sym e) x),
-              λ x. subst (λ (q : ℕ). asked .class q p ≡ asked .class q p′) e (class-forth (levelIn (getD rule i 0)) p p′ (k .from) (k .to) a b x),
+        least = λ k l. w .each k l .its-least;
+        most = λ k l. w .each k l .its-most;
+        scope = λ k s l. ap (λ (m : ℕ). hasBit m s) (w .each k l .its-scope);
+        classes = λ k p p′ l a b.
+            let o = ok k l in
+            let e = w .each k l .its-level in (
+              λ x. class-back (levelIn (getD rule k 0)) p p′ (o .from) (o .to) a b (subst (λ (q : ℕ). asked .class q p ≡ asked .class q p′) (sym e) x),
+              λ x. subst (λ (q : ℕ). asked .class q p ≡ asked .class q p′) e (class-forth (levelIn (getD rule k 0)) p p′ (o .from) (o .to) a b x),
             );
       }
 
@@ -155,7 +206,7 @@ module _ (people steps rules : ℕ) (j : sheet.SheetJob) (r : ReadableJob people
   poses tables t =
       record {
         ready = t .ready;
-        same = same-trans (renamed-same asked posed renamed) (t .same);
+        same = same-trans shortened (same-trans (renamed-same shorter posed renamed) (t .same));
         numbers = λ k a b.
             let x = t .kept k a b in
             let its : (p : ℕ) → p < people → classIn (tables .class) k p ≡ numberOf people (asked .class (x .0)) p = λ p l. x .3 p l ∙ numbered (x .0) p (x .1) (x .2) l in
@@ -207,28 +258,82 @@ least-small different limit l = omega arith
 least-small atMost limit l = omega arith
 least-small atLeast limit l = omega arith
 
-pub most-small : (kind : Kind) (limit steps : ℕ) → limit ≤ 12 → steps ≤ 12 → mostOf kind limit steps < 16
-most-small same limit steps l m = omega arith
-most-small different limit steps l m = omega arith
-most-small atMost limit steps l m = omega arith
-most-small atLeast limit steps l m = omega arith
-
 module _ (steps : ℕ) (kind level limit scope : List ℕ) where
-  pub packed-none : (rule : List ℕ) → length rule ≡ 64 → PackedRules steps 0 kind level limit scope rule
-  packed-none rule l = record { sized = l; each = λ i h. absurd (not-suc-le-zero h) }
+  -- the number holds rule i
+  abbrev pub PacksAt : ℕ → ℕ → Type 0
+  PacksAt i r = Packs steps (getD kind i 0) (getD level i 0) (getD limit i 0) (getD scope i 0) r
 
-  pub packed-more : (n : ℕ) (rule : List ℕ) (x : ℕ) → n < 64 → PackedRules steps n kind level limit scope rule → Packs steps kind level limit scope n x
-      → PackedRules steps (n + 1) kind level limit scope (set rule n x)
-  packed-more n rule x l w p =
-      let z = w .sized in
-      record {
-        sized = length-set rule n x ∙ z;
-        each = λ i h.
-            below-suc n i (subst (λ (k : ℕ). i < k) (add-one n) h)
-            (λ q. subst (Packs steps kind level limit scope i) (sym (getD-set-other rule n i x 0 (omega arith))) (w .each i q))
-            (λ e. subst (λ (k : ℕ). Packs steps kind level limit scope k (getD (set rule n x) k 0)) (sym e)
-            (subst (Packs steps kind level limit scope n) (sym (getD-set-same rule n x 0 (omega arith))) p));
-      }
+  abbrev left : ℕ → Bool
+  left i = unbroken steps (getD kind i 0) (getD limit i 0) (getD scope i 0)
 
-  pub packed-all : (rules n : ℕ) (rule : List ℕ) → n ≤ rules → rules ≤ n → PackedRules steps n kind level limit scope rule → PackedRules steps rules kind level limit scope rule
-  packed-all rules n rule a b w = let e : n ≡ rules = omega arith in subst (λ (x : ℕ). PackedRules steps x kind level limit scope rule) e w
+  pub packed-none : (rule : List ℕ) → length rule ≡ 64 → PackedRules steps 0 kind level limit scope rule 0
+  unfolding keptBelow
+  packed-none rule l = record { sized = l; all = refl; each = λ k h. absurd (not-suc-le-zero h) }
+
+  module _ (n : ℕ) (rule : List ℕ) (number : ℕ) (w : PackedRules steps n kind level limit scope rule number) where
+    pub packed-room : n < 64 → number < 64
+    packed-room l = omega (arith, w .all, kept-few left n)
+
+    -- a rule that no plan breaks is left out
+    pub packed-out : left n ≡ true → PackedRules steps (n + 1) kind level limit scope rule number
+    packed-out h =
+        rw (add-one n)
+        (record {
+          sized = w .sized;
+          all = kept-step (λ (kept : List ℕ). length kept ≡ number) left n (λ o. w .all) (λ o. true-false h o);
+          each = λ k b.
+              kept-step (λ (kept : List ℕ). PacksAt (getD kept k 0) (getD rule k 0)) left n (λ o. w .each k b) (λ o. true-false h o);
+        })
+
+    -- another stands after those before
+    pub packed-more : (x : ℕ) → n < 64 → left n ≡ false → PacksAt n x → PackedRules steps (n + 1) kind level limit scope (set rule number x) (number + 1)
+    packed-more x l h p =
+        let inside : number < length rule = omega (arith, packed-room l, w .sized) in
+        let kept = keptBelow left n in
+        rw (add-one n)
+        (record {
+          sized = length-set rule number x ∙ w .sized;
+          all = kept-step (λ (all : List ℕ). length all ≡ number + 1) left n (λ o. true-false o h) (λ o. omega (arith, length-snoc kept n, w .all));
+          each = λ k b.
+              kept-step (λ (all : List ℕ). PacksAt (getD all k 0) (getD (set rule number x) k 0)) left n (λ o. true-false o h)
+              (λ o.
+              below-suc number k (omega arith)
+              (λ q.
+              let d : k ≡ number → ⊥ = λ e. omega arith in
+              subst (PacksAt (getD (kept ++ n ∷ []) k 0)) (sym (getD-set-other rule number k x 0 d))
+              (subst (λ (i : ℕ). PacksAt i (getD rule k 0)) (sym (List·getD-append kept (n ∷ []) 0 k (omega (arith, w .all)))) (w .each k q)))
+              (λ q.
+              subst (λ (y : ℕ). PacksAt (getD (kept ++ n ∷ []) y 0) (getD (set rule number x) y 0)) (sym q)
+              (subst (PacksAt (getD (kept ++ n ∷ []) number 0)) (sym (getD-set-same rule number x 0 inside))
+              (subst (λ (i : ℕ). PacksAt i x) (sym (getD-at kept n [] 0 number (w .all))) p))));
+        })
+
+  -- by equal arrays and numbers
+  pub packed-as : {n number number′ : ℕ} {rule rule′ : List ℕ} → PackedRules steps n kind level limit scope rule number → rule′ ≡ rule → number′ ≡ number
+      → PackedRules steps n kind level limit scope rule′ number′
+  packed-as {n} {number} {number′} {rule} {rule′} w e d =
+      subst (PackedRules steps n kind level limit scope rule′) (sym d) (subst (λ (x : List ℕ). PackedRules steps n kind level limit scope x number) (sym e) w)
+
+  pub packed-all : (rules n : ℕ) (rule : List ℕ) (number : ℕ) → n ≤ rules → rules ≤ n → PackedRules steps n kind level limit scope rule number
+      → PackedRules steps rules kind level limit scope rule number
+  packed-all rules n rule number a b w =
+      let e : n ≡ rules = omega arith in subst (λ (x : ℕ). PackedRules steps x kind level limit scope rule number) e w
+
+-- how many steps are left in a scope, as the machine counts them
+pub size-left : (steps scope : ℕ) → steps ≤ 12 → scope < 2 ^ steps → ones scope ≡ count steps (hasBit scope)
+size-left steps scope few small =
+    let word : scope < 65536 = let a : 2 ^ steps ≤ 2 ^ 12 = pow-mono few in omega arith in
+    ones-count steps scope (omega arith) word (λ s h. has-below steps scope s small h)
+
+-- a rule with two steps left or more can be broken
+pub breaks-two : (size most : ℕ) → 1 < size → true ≡ not (leb size 1 && leb size most)
+breaks-two size most l = rw (lt-leb size 1 l) refl
+
+-- one with fewer where the greatest count is below them
+pub breaks-fewer : (size most : ℕ) → size ≤ 1 → ltb most size ≡ not (leb size 1 && leb size most)
+breaks-fewer size most l = rw (le-leb size 1 l) (turned most size)
+  where
+    turned : (a b : ℕ) → ltb a b ≡ not (leb b a)
+    turned a b =
+        by-cases (leb b a) (λ t. rw t (le-ltb a b (leb-true b a t)))
+        (λ t. rw t (lt-ltb a b (leb-false b a t)))

@@ -1,8 +1,13 @@
 -- A readable job as the search takes it. Assumes nothing.
+use mathlib.Core.Bool.{Bool, _&&_}
 use mathlib.Core.List.{List}
 use mathlib.Core.Path.{_≡_}
-use Prim.Native.Nat.{ℕ, _≤_, _<_}
+use Prim.Native.Nat.{ℕ, _^_, _≤_, _<_, min}
+use lib.Dec.{leb}
 use lib.ListN.{length, getD}
+use Rattle.bits.specs.Below.{count}
+use Rattle.bits.specs.Word.{hasBit}
+use Rattle.remaining.specs.Kept.{keptBelow}
 use Rattle.sheet.specs.declared.SheetJob as sheet
 use Rattle.workflow.specs.Problem.{leastOf, mostOf}
 use Rattle.workflow.specs.Numbered.{kindIn}
@@ -14,24 +19,43 @@ use Rattle.pattern.specs.Tables.{classIn, mayIn}
 use Rattle.levels.specs.Tabled.{tabledJob, Ready}
 use Rattle.levels.specs.declared.Tables.{Tables}
 
--- the levels and limits of the rules are small enough to be packed
-pub record Packable (steps rules : ℕ) (level limit : List ℕ) : Type 0 where
+-- the levels, limits and scopes of the rules are small enough to be packed
+pub record Packable (steps rules : ℕ) (level limit scope : List ℕ) : Type 0 where
   pub few-steps : steps ≤ 12
   pub few-rules : rules ≤ 64
   pub levels : length level ≡ 64
   pub limits : length limit ≡ 64
+  pub scopes : length scope ≡ 64
   pub small-level : (i : ℕ) → i < rules → getD level i 0 ≤ 3
   pub small-limit : (i : ℕ) → i < rules → getD limit i 0 ≤ 12
+  pub small-scope : (i : ℕ) → i < rules → getD scope i 0 < 2 ^ steps
 
--- the number holds rule i of the arrays
-abbrev pub Packs : ℕ → List ℕ → List ℕ → List ℕ → List ℕ → ℕ → ℕ → Type 0
-Packs steps kind level limit scope i r =
-    Packed (getD level i 0) (leastOf (kindIn (getD kind i 0)) (getD limit i 0)) (mostOf (kindIn (getD kind i 0)) (getD limit i 0) steps) (getD scope i 0) r
+-- the least and the greatest count of a card's rule, as `ruleOf` has them
+abbrev pub leastLeft : ℕ → ℕ → ℕ → ℕ → ℕ
+leastLeft steps kind limit scope = min (leastOf (kindIn kind) limit) (count steps (hasBit scope))
 
--- the first n rules as numbers
-pub record PackedRules (steps n : ℕ) (kind level limit scope rule : List ℕ) : Type 0 where
+abbrev pub mostLeft : ℕ → ℕ → ℕ → ℕ
+mostLeft steps kind limit = min (mostOf (kindIn kind) limit steps) steps
+
+-- the number holds the rule of a card's kind, level, limit and scope
+abbrev pub Packs : ℕ → ℕ → ℕ → ℕ → ℕ → ℕ → Type 0
+Packs steps kind level limit scope r = Packed level (leastLeft steps kind limit scope) (mostLeft steps kind limit) scope r
+
+-- no plan breaks a rule that is left with one step or none
+abbrev pub unbroken : ℕ → ℕ → ℕ → ℕ → Bool
+unbroken steps kind limit scope = leb (count steps (hasBit scope)) 1 && leb (count steps (hasBit scope)) (mostLeft steps kind limit)
+
+-- the others of the first n
+abbrev pub breakable : ℕ → List ℕ → List ℕ → List ℕ → ℕ → List ℕ
+breakable steps kind limit scope n = keptBelow (λ i. unbroken steps (getD kind i 0) (getD limit i 0) (getD scope i 0)) n
+
+-- those as numbers
+pub record PackedRules (steps n : ℕ) (kind level limit scope rule : List ℕ) (number : ℕ) : Type 0 where
   pub sized : length rule ≡ 64
-  pub each : (i : ℕ) → i < n → Packs steps kind level limit scope i (getD rule i 0)
+  pub all : length (breakable steps kind limit scope n) ≡ number
+  pub each : (k : ℕ) → k < number
+      → let i = getD (breakable steps kind limit scope n) k 0 in
+      Packs steps (getD kind i 0) (getD level i 0) (getD limit i 0) (getD scope i 0) (getD rule k 0)
 
 -- level k of the tables has the classes of one level of the sheet, "numbered from 0 by first use in crew order, and two people get one
 -- number exactly when they share the shop, or the bench"; the numbers are small

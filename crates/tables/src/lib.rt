@@ -1,7 +1,8 @@
 // A job as the search takes it: masks of people for each step, classes numbered by first use, and rules as
 // numbers.
+ghost use mathlib.Core.Bool.{not};
 ghost use mathlib.Core.Path.{_≡_};
-ghost use Prim.Native.Nat.{ℕ, _+_, _^_, _<_, _≤_};
+ghost use Prim.Native.Nat.{ℕ, _+_, _^_, _<_, _≤_, min};
 ghost use lib.Dec.{eqb};
 ghost use lib.ListN.{length, getD};
 ghost use Rattle.bits.specs.Slots.{FirstOfSlot};
@@ -9,7 +10,7 @@ ghost use Rattle.workflow.specs.Problem.{leastOf, mostOf};
 ghost use Rattle.workflow.specs.Numbered.{kindIn};
 ghost use Rattle.pattern.specs.Number.{firstUse, classesBefore};
 ghost use Rattle.sheet.specs.Readable.{ReadableJob};
-ghost use Rattle.tables.specs.Posing.{Packable, PackedRules, Poses};
+ghost use Rattle.tables.specs.Posing.{Packable, Packs, PackedRules, Poses, unbroken};
 ghost use Rattle.tables.specs.Arrays.{MasksOf, wordOf, NumbersAt, Entered, ClassesOf};
 ghost use Rattle.tables.specs.Rows.{Pushed};
 use bits::sizes::CLASS_ENTRIES;
@@ -24,6 +25,7 @@ use bits::sizes::Rules;
 use bits::sizes::SLOTS;
 use bits::sizes::SlotPeople;
 use bits::slots::first_there;
+use bits::small;
 use levels::Tables;
 use levels::keep;
 use pattern::Size;
@@ -152,7 +154,45 @@ fn most(kind: u8, limit: usize, steps: usize) -> usize
     }
 }
 
-// The rules of a job as numbers.
+// The smaller of two numbers.
+fn smaller(a: usize, b: usize) -> usize
+    ensures { λ r. ⌜ r ≡ min a b ⌝ }
+{
+    if b < a {
+        return b;
+    }
+    a
+}
+
+// A rule as a number. Where skipped steps are left out, its bounds are at most the steps left in its scope, and those of the job.
+fn packed_rule(kind: u8, level: u8, limit: u8, scope: u16, steps: usize) -> u32
+    requires { ⌜ (level ≤ 3) × (limit ≤ 12) × (steps ≤ 12) × (scope < 2 ^ steps) ⌝ }
+    ensures { λ r. ⌜ Packs steps kind level limit scope r ⌝ }
+{
+    let low = smaller(least(kind, limit as usize), small::size(scope));
+    let high = smaller(most(kind, limit as usize, steps), steps);
+    rule::pack(level as usize, low, high, scope)
+}
+
+// Whether a plan can break a rule: not one that is left with one step or none.
+fn can_break(kind: u8, limit: u8, scope: u16, steps: usize) -> bool
+    requires { ⌜ (steps ≤ 12) × (scope < 2 ^ steps) ⌝ }
+    ensures { λ b. ⌜ b ≡ not (unbroken steps kind limit scope) ⌝ }
+{
+    let left = small::size(scope);
+    if left > 1 {
+        return true;
+    }
+    left > smaller(most(kind, limit as usize, steps), steps)
+}
+
+// The rules of a job that a plan can break, as numbers.
+struct Breakable {
+    rule: Rules,
+    count: usize,
+}
+
+// Without the others the search has no more to look at than on a sheet without the skipped steps.
 fn packed<'a>(
     kind: &'a RuleBytes,
     level: &'a RuleBytes,
@@ -160,26 +200,28 @@ fn packed<'a>(
     scope: &'a [u16; MOST_RULES],
     steps: usize,
     rules: usize,
-) -> Rules
-    requires { ⌜ Packable steps rules (now level) (now limit) × (length (now kind) ≡ 64) × (length (now scope) ≡ 64) ⌝ }
-    ensures { λ r. ⌜ PackedRules steps rules (now (kind .entry)) (now (level .entry)) (now (limit .entry)) (now (scope .entry)) r ⌝ }
+) -> Breakable
+    requires { ⌜ Packable steps rules (now level) (now limit) (now scope) × (length (now kind) ≡ 64) ⌝ }
+    ensures { λ r. ⌜ PackedRules steps rules (now (kind .entry)) (now (level .entry)) (now (limit .entry)) (now (scope .entry)) (r .rule) (r .count) ⌝ }
 {
     let mut rule = [0u32; MOST_RULES];
+    let mut count = 0;
     for i in 0..rules {
-        let low = least(kind[i], limit[i] as usize);
-        let high = most(kind[i], limit[i] as usize, steps);
-        rule[i] = rule::pack(level[i] as usize, low, high, scope[i]);
+        if can_break(kind[i], limit[i], scope[i], steps) {
+            rule[count] = packed_rule(kind[i], level[i], limit[i], scope[i], steps);
+            count += 1;
+        }
     }
-    rule
+    Breakable { rule, count }
 }
 
-// Poses a readable job to the search, without the levels that no rule names.
+// Poses a readable job to the search, without the rules that no plan breaks and the levels that no other names.
 pub fn pose(job: SheetJob, people: usize, steps: usize, rules: usize) -> Tables
     requires { ⌜ ReadableJob people steps rules job ⌝ }
     ensures { λ r. ⌜ Poses people steps rules job r ⌝ }
 {
     let class = classes(&job.shop, &job.bench, people);
-    let rule = packed(
+    let asked = packed(
         &job.rule_kind,
         &job.rule_level,
         &job.rule_limit,
@@ -187,11 +229,12 @@ pub fn pose(job: SheetJob, people: usize, steps: usize, rules: usize) -> Tables
         steps,
         rules,
     );
+    let rule = asked.rule;
     let size = Size {
         steps: steps,
         people: people,
         levels: MOST_LEVELS,
-        rules: rules,
+        rules: asked.count,
     };
     keep(size, &class, &rule)
 }

@@ -49,7 +49,7 @@ fn write_reading(reading: Reading) {
 
 // Writes the answer to a sheet, and says whether the line was taken.
 fn write_answer(name: &[u8], bytes: &[u8]) -> bool {
-    let answer = sheet::read_sheet(bytes);
+    let answer = remaining::read_job(bytes);
     let reading = answer.reading;
     io::write_all(STDOUT_FILENO, name);
     write_reading(reading);

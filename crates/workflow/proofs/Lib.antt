@@ -11,3 +11,4 @@ pub mod First
 pub mod Examples
 pub mod Same
 pub mod Labels
+pub mod Leaves

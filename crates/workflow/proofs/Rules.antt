@@ -1,16 +1,17 @@
 -- What a rule says of its steps, for rules as a readable sheet has them. Assumes nothing.
 use mathlib.Core.Bool.{Bool, cond}
-use mathlib.Core.Logic.{_↔_}
+use mathlib.Core.Logic.{_↔_, inl, inr}
 use mathlib.Core.Path.{_≡_, refl, sym, _∙_}
-use Prim.Native.Nat.{ℕ, _≤_, _<_}
+use Prim.Native.Nat.{ℕ, _≤_, _<_, min}
 use native.Mathlib.Omega.{arith}
 use lib.Dec.{eqb, ltb}
 use borrow.Author.Tests.{eqb-true, eqb-false, eq-eqb, ne-eqb, ltb-true, ltb-false}
 use Rattle.bits.specs.Below.{count}
 use Rattle.bits.proofs.Below.{by-cases}
-use Rattle.bits.proofs.Counting.{Two, count-le, count-is-two}
+use Rattle.bits.proofs.Counting.{Two, count-le, count-at, count-two, count-is-two}
 use Rattle.workflow.specs.Problem.{Kind, Job, Plan, same, different, atMost, atLeast, leastOf, mostOf, ruleOf, distinct, classCount, Asks, Met, RuleOk, Fits, Pair}
-use Rattle.workflow.proofs.Counts.{distinct-le, distinct-pair}
+use Rattle.workflow.specs.Skipped.{AsksLeft}
+use Rattle.workflow.proofs.Counts.{distinct-le-scope, distinct-some, distinct-pair}
 
 -- the count over a scope of two steps
 pub distinct-of-pair : (n : ℕ) (scope : ℕ → Bool) (c : ℕ → ℕ) (s t : ℕ) → Pair n scope s t
@@ -64,13 +65,65 @@ scope-pair n scope h =
       },
     )
 
+-- such a scope has two steps
+pair-size : (n : ℕ) (scope : ℕ → Bool) (s t : ℕ) → Pair n scope s t → count n scope ≡ 2
+pair-size n scope s t p =
+    by-cases (ltb s t)
+    (λ l. count-two n scope s t (ltb-true s t l) (p .second) (p .has-first) (p .only) ∙ rw (p .has-second) refl)
+    (λ l. let m : t < s = (let a = ltb-false s t l in let d = p .differ in omega arith) in
+    count-two n scope t s m (p .first) (p .has-second) (λ k b x y. p .only k b y x) ∙ rw (p .has-first) refl)
+
+-- a count within the bounds of a kind is one that the kind asks for with so many steps left: n classes over a scope of `left` steps, of so many in all
+module _ (limit left n steps : ℕ) (few : n ≤ left) (some : 1 ≤ left → 1 ≤ n) (inside : left ≤ steps) where
+  pub bounds-ask : (k : Kind) → min (leastOf k limit) left ≤ n → n ≤ min (mostOf k limit steps) steps → AsksLeft k limit left n
+  bounds-ask same l m = by-cases (ltb left 2) (λ t. inl (ltb-true left 2 t)) (λ t. inr (let z = ltb-false left 2 t in omega arith))
+  bounds-ask different l m = by-cases (ltb left 2) (λ t. inl (ltb-true left 2 t)) (λ t. inr (let z = ltb-false left 2 t in omega arith))
+  bounds-ask atMost l m = omega arith
+  bounds-ask atLeast l m = l
+
+  pub ask-least : (k : Kind) → AsksLeft k limit left n → min (leastOf k limit) left ≤ n
+  ask-least same (inl a) = by-cases (ltb 0 left) (λ t. let z = some (ltb-true 0 left t) in omega arith) (λ t. let z = ltb-false 0 left t in omega arith)
+  ask-least same (inr a) = omega arith
+  ask-least different (inl a) = by-cases (ltb 0 left) (λ t. let z = some (ltb-true 0 left t) in omega arith) (λ t. let z = ltb-false 0 left t in omega arith)
+  ask-least different (inr a) = omega arith
+  ask-least atMost a = omega arith
+  ask-least atLeast a = a
+
+  pub ask-most : (k : Kind) → AsksLeft k limit left n → n ≤ min (mostOf k limit steps) steps
+  ask-most same (inl a) = omega arith
+  ask-most same (inr a) = omega arith
+  ask-most different (inl a) = omega arith
+  ask-most different (inr a) = omega arith
+  ask-most atMost a = omega arith
+  ask-most atLeast a = omega arith
+
+-- without a skipped step the limits fit, and a kind asks for what it did
+pub asks-whole : (k : Kind) (limit size n : ℕ) → Fits k limit size → AsksLeft k limit size n ↔ Asks k limit n
+asks-whole same limit size n f = (elim [ inl a ↦ absurd (omega (arith, f .0)) | inr a ↦ a ], λ a. inr a)
+asks-whole different limit size n f = (elim [ inl a ↦ absurd (omega (arith, f .0)) | inr a ↦ a ], λ a. inr a)
+asks-whole atMost limit size n f = (λ a. a, λ a. a)
+asks-whole atLeast limit size n f = (λ a. omega (arith, f .2), λ a. omega (arith, f .2))
+
+-- where a scope has a step it has a class
+pub class-some : (n : ℕ) (scope : ℕ → Bool) (c : ℕ → ℕ) → 1 ≤ count n scope → 1 ≤ distinct n scope c
+class-some n scope c l = let s = count-at n scope l in distinct-some n scope c (s .0) (s .1) (s .2)
+
 -- a rule of a kind is met exactly where its count is what the kind asks for
 module _ (j : Job) (level limit : ℕ) (scope : ℕ → Bool) (π : Plan) where
-  pub met-asks : (k : Kind) → Met j (ruleOf (j .steps) k level limit scope) π ↔ Asks k limit (classCount j (ruleOf (j .steps) k level limit scope) π)
-  met-asks same = (λ m. omega (arith, m .least, m .most), λ a. record { least = omega arith; most = omega arith })
-  met-asks different = (λ m. omega (arith, m .least, m .most), λ a. record { least = omega arith; most = omega arith })
-  met-asks atMost = (λ m. m .most, λ a. record { least = omega arith; most = a })
-  met-asks atLeast = (λ m. m .least, λ a. record { least = a; most = distinct-le (j .steps) scope (λ s. j .class level (π s)) })
+  abbrev counted : Kind → ℕ
+  counted k = classCount j (ruleOf (j .steps) k level limit scope) π
+
+  pub met-asks : (k : Kind) → Met j (ruleOf (j .steps) k level limit scope) π ↔ AsksLeft k limit (count (j .steps) scope) (counted k)
+  met-asks k =
+      let few = distinct-le-scope (j .steps) scope (λ s. j .class level (π s)) in
+      let some = class-some (j .steps) scope (λ s. j .class level (π s)) in
+      let inside = count-le (j .steps) scope in (
+        λ m. bounds-ask limit (count (j .steps) scope) (counted k) (j .steps) few some inside k (m .least) (m .most),
+        λ a. record {
+          least = ask-least limit (count (j .steps) scope) (counted k) (j .steps) few some inside k a;
+          most = ask-most limit (count (j .steps) scope) (counted k) (j .steps) few some inside k a;
+        },
+      )
 
 module _ (j : Job) (level : ℕ) (scope : ℕ → Bool) (π : Plan) (s t : ℕ) (pair : Pair (j .steps) scope s t) where
   one-or-two : (j .class level (π s) ≡ j .class level (π t) → distinct (j .steps) scope (λ u. j .class level (π u)) ≡ 1)
@@ -82,26 +135,17 @@ module _ (j : Job) (level : ℕ) (scope : ℕ → Bool) (π : Plan) (s t : ℕ) 
   same-iff = (
     λ m. by-cases (eqb (j .class level (π s)) (j .class level (π t)))
         (λ e. eqb-true _ _ e) (λ e. absurd (omega (arith, one-or-two .1 (eqb-false _ _ e), m .most))),
-    λ e. met-asks j level 0 scope π same .1 (one-or-two .0 e),
+    λ e. met-asks j level 0 scope π same .1 (inr (one-or-two .0 e)),
   )
 
   -- kind different is the document's (s, s′, ≁)
   pub different-iff : Met j (ruleOf (j .steps) different level 0 scope) π ↔ (j .class level (π s) ≡ j .class level (π t) → ⊥)
-  different-iff = (λ m e. omega (arith, one-or-two .0 e, m .least), λ d. met-asks j level 0 scope π different .1 (one-or-two .1 d))
+  different-iff = (
+    λ m e. omega (arith, one-or-two .0 e, m .least, pair-size (j .steps) scope s t pair),
+    λ d. met-asks j level 0 scope π different .1 (inr (one-or-two .1 d)),
+  )
 
--- a rule of a readable sheet has bounds within reach
-pub ruleOf-ok : (steps levels : ℕ) (k : Kind) (level limit : ℕ) (scope : ℕ → Bool) → 1 ≤ level → level ≤ levels → Fits k limit (count steps scope)
+-- a rule of a readable sheet, whatever steps of its scope are left, has bounds within reach
+pub ruleOf-ok : (steps levels : ℕ) (k : Kind) (level limit : ℕ) (scope : ℕ → Bool) → 1 ≤ level → level ≤ levels
     → RuleOk steps levels (ruleOf steps k level limit scope)
-ruleOf-ok steps levels k level limit scope a b f = record { from = a; to = b; reachable = low k f; bounded = high k f }
-  where
-    low : (k : Kind) → Fits k limit (count steps scope) → leastOf k limit ≤ count steps scope
-    low same f = omega arith
-    low different f = omega arith
-    low atMost f = omega arith
-    low atLeast f = f .2
-
-    high : (k : Kind) → Fits k limit (count steps scope) → mostOf k limit steps ≤ steps
-    high same f = omega (arith, count-le steps scope)
-    high different f = omega (arith, count-le steps scope)
-    high atMost f = omega (arith, count-le steps scope)
-    high atLeast f = omega arith
+ruleOf-ok steps levels k level limit scope a b = record { from = a; to = b; reachable = omega arith; bounded = omega arith }

@@ -4,3 +4,5 @@ pub mod First
 pub mod Numbered
 pub mod Same
 pub mod Labels
+pub mod Skipped
+pub mod Leaves

@@ -2,7 +2,7 @@
 -- number of nested levels. Steps, people and rules are numbered from 0, levels from 1. Assumes nothing.
 use mathlib.Core.Bool.{Bool, true, false, not, _&&_}
 use mathlib.Core.Path.{_≡_}
-use Prim.Native.Nat.{ℕ, suc, _≤_, _<_}
+use Prim.Native.Nat.{ℕ, suc, _≤_, _<_, min}
 use lib.Dec.{eqb, leb, ltb}
 use Rattle.bits.specs.Below.{all, any, count}
 
@@ -97,9 +97,11 @@ mostOf different limit steps = 2
 mostOf atMost limit steps = limit
 mostOf atLeast limit steps = steps
 
--- the rule of a card, in a job of so many steps
+-- the rule of a card, in a job of so many steps. Where skipped steps are left out (Skipped.antt), the least count is at most the steps left in its scope, and
+-- the greatest at most those of the job
 abbrev pub ruleOf : ℕ → Kind → ℕ → ℕ → (ℕ → Bool) → Rule
-ruleOf steps kind level limit scope = record { level = level; least = leastOf kind limit; most = mostOf kind limit steps; scope = scope }
+ruleOf steps kind level limit scope =
+    record { level = level; least = min (leastOf kind limit) (count steps scope); most = min (mostOf kind limit steps) steps; scope = scope }
 
 -- the count lies within the rule's bounds
 pub record InBounds (r : Rule) (n : ℕ) : Type 0 where

@@ -50,11 +50,17 @@ fn fault(name: usize, sample: &Sample, line: Option<&String>) -> Option<String> 
     }
 }
 
+/// By how many steps a readable sheet skips. A run in which one of these was never met has failed.
+const READABLE: [&str; 3] = ["readable", "readable, some steps skipped", "readable, all steps skipped"];
+
 fn outcome(sample: &Sample) -> String {
-    match read(&sample.sheet) {
-        Ok(_) => "readable".to_string(),
-        Err(refusal) => format!("refusal {:2}", refusal.number),
-    }
+    let job = match read(&sample.sheet) {
+        Err(refusal) => return format!("refusal {:2}", refusal.number),
+        Ok(job) => job,
+    };
+    let left = job.remaining().count();
+    let skipped = if left == job.steps.len() { 0 } else { 1 + usize::from(left == 0) };
+    READABLE[skipped].to_string()
 }
 
 fn run(count: usize, seed: u64, program: &str) -> std::io::Result<Tally> {
@@ -75,6 +81,7 @@ fn run(count: usize, seed: u64, program: &str) -> std::io::Result<Tally> {
         }
         done += size;
     }
+    tally.want(READABLE.map(String::from));
     Ok(tally)
 }
 

@@ -39,7 +39,6 @@ fn each_byte() -> Vec<Trial> {
 fn unnamed(card: usize) -> Vec<usize> {
     match card {
         1..=4 => vec![1, 14, 15],
-        5..=7 => [1].into_iter().chain(8..16).collect(),
         _ => (8..16).collect(),
     }
 }

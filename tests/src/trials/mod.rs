@@ -6,6 +6,7 @@ mod damage;
 mod file;
 pub mod papers;
 mod points;
+mod skipped;
 mod together;
 
 use crate::records;
@@ -39,6 +40,7 @@ pub fn all() -> Vec<Trial> {
     trials.extend(points::trials());
     trials.extend(damage::trials());
     trials.extend(together::trials());
+    trials.extend(skipped::trials());
     trials
 }
 

@@ -13,8 +13,8 @@ use Rattle.instance.proofs.Counted.{staffed, rules-staffed}
 use Rattle.by_trial.proofs.write_answer.Statement.{statement}
 use Rattle.by_trial.proofs.write_answer.Tie as tie
 
-read-sheet-requires : tie.Need-read-sheet-requires
-read-sheet-requires c κs = search needs
+read-job-requires : tie.Need-read-job-requires
+read-job-requires c κs = search needs
 
 enum-known-reading : tie.Need-enum-known-reading
 enum-known-reading c = search needs
@@ -23,7 +23,7 @@ enum-told : tie.Need-enum-told
 enum-told c = search needs
 
 number-requires : tie.Need-number-requires
-number-requires c κs = let r = c .before .before .read-sheet in read-returnable _ (r .result) (r .ensures)
+number-requires c κs = let r = c .before .before .read-job in read-returnable _ (r .result) (r .ensures)
 
 write-refusal-requires : tie.Need-write-refusal-requires
 write-refusal-requires c κs = search needs
@@ -33,10 +33,10 @@ returns c = search needs
 
 -- the job that was read
 readable : (c : tie.After-job) → let g = c .before .before .reading .given .0 in
-    ReadableJob (g .0) (g .1 .0) (g .1 .1 .0) (c .before .before .before .before .read-sheet .result .job)
+    ReadableJob (g .0) (g .1 .0) (g .1 .1 .0) (c .before .before .before .before .read-job .result .job)
 readable c =
     let g = c .before .before in
-    let r = g .before .before .read-sheet in
+    let r = g .before .before .read-job in
     was-readable _ (r .result) (r .ensures) (g .reading .given .0 .0) (g .reading .given .0 .1 .0) (g .reading .given .0 .1 .1 .0) (g .reading .given .1)
 
 try-every-requires : tie.Need-try-every-requires
@@ -106,6 +106,6 @@ returns-3 c = search needs
 pub write-answer-spec : {M : Type 1} → statement M
 write-answer-spec =
     tie.close
-    (tie.spec read-sheet-requires enum-known-reading enum-told number-requires write-refusal-requires returns try-every-requires
+    (tie.spec read-job-requires enum-known-reading enum-told number-requires write-refusal-requires returns try-every-requires
     slice-aggregate-text text-requires figure-requires slice-aggregate-text-2 text-requires-2 few-plans-requires write-trials-requires
     returned-requires write-refusal-requires-2 returns-2 write-plan-requires rule-counts-requires write-rules-requires returns-3)

@@ -8,8 +8,8 @@ use Rattle.answer.proofs.CrewCall.{returns-refusal, readable, returns-short, pl
 use Rattle.crew.proofs.crew.Statement.{statement}
 use Rattle.crew.proofs.crew.Tie as tie
 
-read-sheet-requires : tie.Need-read-sheet-requires
-read-sheet-requires c κs = search needs
+read-job-requires : tie.Need-read-job-requires
+read-job-requires c κs = search needs
 
 enum-known-reading : tie.Need-enum-known-reading
 enum-known-reading c = search needs
@@ -18,28 +18,28 @@ enum-told : tie.Need-enum-told
 enum-told c = search needs
 
 number-requires : tie.Need-number-requires
-number-requires c κs = read-returnable _ _ (c .before .before .read-sheet .ensures)
+number-requires c κs = read-returnable _ _ (c .before .before .read-job .ensures)
 
 returns : tie.Need-returns
-returns c = returns-refusal _ _ (c .before .before .before .read-sheet .ensures) _ (c .before .before .match .keys2) _ (c .number .ensures)
+returns c = returns-refusal _ _ (c .before .before .before .read-job .ensures) _ (c .before .before .match .keys2) _ (c .number .ensures)
 
 mul-if1 : tie.Need-mul-if1
-mul-if1 c = omega (arith, readable _ _ (c .before .before .before .read-sheet .ensures) _ _ _ (c .before .reading .given .1) .steps-most)
+mul-if1 c = omega (arith, readable _ _ (c .before .before .before .read-job .ensures) _ _ _ (c .before .reading .given .1) .steps-most)
 
 returned-requires : tie.Need-returned-requires
 returned-requires c κs = search needs
 
 -- from the sheet's reading back to the call of the reader
-abbrev read : tie.After-reading → tie.After-read-sheet
+abbrev read : tie.After-reading → tie.After-read-job
 read c = c .before .before
 
 returns-2 : tie.Need-returns-2
 returns-2 c =
     let g = c .before .before .before in
-    returns-short _ _ (read g .read-sheet .ensures) _ _ _ (g .reading .given .1) _ (c .before .if1 .taken) _ (c .returned .ensures)
+    returns-short _ _ (read g .read-job .ensures) _ _ _ (g .reading .given .1) _ (c .before .if1 .taken) _ (c .returned .ensures)
 
 plan-job-requires : tie.Need-plan-job-requires
-plan-job-requires c κs = let g = c .before .before .before in readable _ _ (read g .read-sheet .ensures) _ _ _ (g .reading .given .1)
+plan-job-requires c κs = let g = c .before .before .before in readable _ _ (read g .read-job .ensures) _ _ _ (g .reading .given .1)
 
 -- from the answer back to the plan, from there to the branch in which the buffer has room, and to the reading
 abbrev planned : tie.After-answer-crew-arg → tie.After-plan-job
@@ -62,9 +62,9 @@ answer-crew-requires c κs =
     let g = told e in
     let r = p .plan-job in (
       plan-sized (c .before .before),
-      readable _ _ (read g .read-sheet .ensures) _ _ _ (g .reading .given .1) .steps-most,
+      readable _ _ (read g .read-job .ensures) _ _ _ (g .reading .given .1) .steps-most,
       e .if1 .left,
-      plan-below _ _ (read g .read-sheet .ensures) _ _ _ (g .reading .given .1) (r .result .found) (r .result .plan) (r .ensures),
+      plan-below _ _ (read g .read-job .ensures) _ _ _ (g .reading .given .1) (r .result .found) (r .result .plan) (r .ensures),
     )
 
 same-length : tie.Need-same-length
@@ -77,11 +77,11 @@ returns-3 c =
     let e = room p in
     let g = told e in
     let r = p .plan-job in
-    returns-planned _ _ (read g .read-sheet .ensures) _ _ _ (g .reading .given .1) (r .result .found) (r .result .plan) (r .ensures) _ (e .if1 .left) _ _
+    returns-planned _ _ (read g .read-job .ensures) _ _ _ (g .reading .given .1) (r .result .found) (r .result .plan) (r .ensures) _ (e .if1 .left) _ _
     (a .answer-crew .ensures .0) (a .answer-crew .ensures .1)
 
 pub crew-spec : {M : Type 1} → statement M
 crew-spec =
     tie.close
-    (tie.spec read-sheet-requires enum-known-reading enum-told number-requires returns mul-if1 returned-requires returns-2 plan-job-requires
+    (tie.spec read-job-requires enum-known-reading enum-told number-requires returns mul-if1 returned-requires returns-2 plan-job-requires
     answer-crew-requires same-length returns-3)

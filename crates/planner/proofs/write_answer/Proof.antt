@@ -13,8 +13,8 @@ use Rattle.instance.proofs.Counted.{staffed, rules-staffed}
 use Rattle.planner.proofs.write_answer.Statement.{statement}
 use Rattle.planner.proofs.write_answer.Tie as tie
 
-read-sheet-requires : tie.Need-read-sheet-requires
-read-sheet-requires c κs = search needs
+read-job-requires : tie.Need-read-job-requires
+read-job-requires c κs = search needs
 
 enum-known-reading : tie.Need-enum-known-reading
 enum-known-reading c = search needs
@@ -23,7 +23,7 @@ enum-told : tie.Need-enum-told
 enum-told c = search needs
 
 number-requires : tie.Need-number-requires
-number-requires c κs = let r = c .before .before .read-sheet in read-returnable _ (r .result) (r .ensures)
+number-requires c κs = let r = c .before .before .read-job in read-returnable _ (r .result) (r .ensures)
 
 write-refusal-requires : tie.Need-write-refusal-requires
 write-refusal-requires c κs = search needs
@@ -33,10 +33,10 @@ returns c = search needs
 
 -- the job that was read
 readable : (c : tie.After-job) → let g = c .before .before .reading .given .0 in
-    ReadableJob (g .0) (g .1 .0) (g .1 .1 .0) (c .before .before .before .before .read-sheet .result .job)
+    ReadableJob (g .0) (g .1 .0) (g .1 .1 .0) (c .before .before .before .before .read-job .result .job)
 readable c =
     let g = c .before .before in
-    let r = g .before .before .read-sheet in
+    let r = g .before .before .read-job in
     was-readable _ (r .result) (r .ensures) (g .reading .given .0 .0) (g .reading .given .0 .1 .0) (g .reading .given .0 .1 .1 .0) (g .reading .given .1)
 
 plan-job-requires : tie.Need-plan-job-requires
@@ -69,7 +69,7 @@ chosen c = c .before .before .before .before .before .before
 
 -- it gives each step one of the people
 within : (c : tie.Else1) → let p = c .before .before in let g = p .before .before .before .reading .given .0 in
-    OfPeople (instanceOf (g .0) (g .1 .0) (g .1 .1 .0) (p .before .before .before .before .before .read-sheet .result .job)) (planOf (p .plan-job .result .plan))
+    OfPeople (instanceOf (g .0) (g .1 .0) (g .1 .1 .0) (p .before .before .before .before .before .read-job .result .job)) (planOf (p .plan-job .result .plan))
 within c = let r = c .before .before .plan-job in found-within _ _ (r .result .found) (r .result .plan) (r .ensures) (not-false _ (c .if1 .left))
 
 write-plan-requires : tie.Need-write-plan-requires
@@ -99,7 +99,7 @@ pub write-answer-spec : {M : Type 1} → statement M
 write-answer-spec =
     tie.close
     (tie.spec
-    read-sheet-requires
+    read-job-requires
     enum-known-reading
     enum-told
     number-requires

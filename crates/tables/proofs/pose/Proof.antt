@@ -11,19 +11,19 @@ abbrev start : tie.After-classes → tie.Start
 start c = c .before .before .before .before
 
 packed-requires : tie.Need-packed-requires
-packed-requires c κs = let r = start (c .before .before .before .before .before) .pre in (packable _ _ _ _ r, r .sized .kind, r .sized .scope)
+packed-requires c κs = let r = start (c .before .before .before .before .before) .pre in (packable _ _ _ _ r, r .sized .kind)
 
 keep-requires : tie.Need-keep-requires
 keep-requires c κs =
-    let p = c .before .before in
+    let p = c .before .before .before in
     let k = p .before .before .before .before .before .before in
-    whole-classed _ _ _ _ (start k .pre) _ (k .classes .ensures) _ (p .packed .ensures)
+    whole-classed _ _ _ _ (start k .pre) _ (k .classes .ensures) _ _ (p .packed .ensures)
 
 returns : tie.Need-returns
 returns c =
-    let p = c .before .before .before in
+    let p = c .before .before .before .before in
     let k = p .before .before .before .before .before .before in
-    poses _ _ _ _ (start k .pre) _ (k .classes .ensures) _ (p .packed .ensures) _ (c .keep .ensures)
+    poses _ _ _ _ (start k .pre) _ (k .classes .ensures) _ _ (p .packed .ensures) _ (c .keep .ensures)
 
 pub pose-spec : {M : Type 1} → statement M
 pose-spec = tie.close (tie.spec classes-requires packed-requires keep-requires returns)

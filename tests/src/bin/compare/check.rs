@@ -24,10 +24,10 @@ fn any_cap(random: &mut Random) -> u32 {
     }
 }
 
-/// The length of the answer area: what the call needs, one less, more, or none.
+/// The length of the answer area: what the call needs, one less, more, or none. An empty crew needs none.
 fn any_room(random: &mut Random, need: usize) -> usize {
     match random.below(12) {
-        0 => need - 1,
+        0 => need.saturating_sub(1),
         1 => 0,
         2 => random.below(need),
         3..=5 => need + random.within(1, 40),

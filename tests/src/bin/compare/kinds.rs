@@ -6,25 +6,41 @@ use model::plans::plans;
 use model::reader::read;
 use model::refusal::{Refusal, BAD_LENGTH, CAP_TOO_HIGH, NO_PLAN, SHORT_ANSWER};
 use model::trial::SHOWN;
+use sheet_tests::skipped::skips_some;
 
 const CREWS: [Call; 2] = [Call::Crew, Call::CrewByTrial];
 
-/// Where the crew stands among the plans of its job.
+/// Where the crew stands among the plans of its job. With all steps skipped there is one, the empty plan.
+const EMPTY: &str = "the empty plan";
 const ONLY: &str = "the only plan";
 const FIRST: &str = "the first plan";
 const LATER: &str = "a later plan";
 const LAST: &str = "the last plan";
 
-/// What a job has much of. Each end of a crew call is wanted with each of these.
-const MUCH: [(&str, fn(&Job) -> bool); 4] = [
-    ("64 people", |job| job.people.len() == MOST_PEOPLE && job.steps.len() > 1),
-    ("12 steps", |job| job.steps.len() == MOST_STEPS && job.people.len() > 1),
+type Has = fn(&Job) -> bool;
+
+/// What a job has much of, or lacks. Each end of a crew call is wanted with each of these.
+const MUCH: [(&str, Has); 6] = [
+    ("64 people", |job| job.people.len() == MOST_PEOPLE && job.remaining().count() > 1),
+    ("12 steps", |job| job.remaining().count() == MOST_STEPS && job.people.len() > 1),
     ("64 rules", |job| job.rules.len() == MOST_RULES),
     ("more than 1,000 plans", |job| plans(job) > SHOWN),
+    ("some steps skipped", |job| skips_some(job) && job.remaining().count() > 1),
+    ("some of 12 steps skipped", |job| skips_some(job) && job.steps.len() == MOST_STEPS && job.people.len() > 1),
 ];
+
+/// An area that would be too short for all steps, and is not for those that remain.
+const SHORT_FOR_ALL: &str = "an area too short for the skipped steps";
+
+/// Of the spare count where no step remains.
+const FEWER_PEOPLE: &str = "all steps skipped, fewer people than the cap";
 
 fn spare(count: u32, cap: u32) -> String {
     format!("{count} of {cap}")
+}
+
+fn all_skipped(cap: u32) -> String {
+    format!("all steps skipped, {}", spare(cap, cap))
 }
 
 fn refusal(number: u32) -> String {
@@ -37,7 +53,11 @@ fn with_much(much: &str, end: &str) -> String {
 
 /// The place of the crew in the area.
 fn place(job: &Job, area: &[u8]) -> &'static str {
-    let crew = || area.chunks_exact(STEP_BYTES).take(job.steps.len());
+    let steps = job.remaining().count();
+    if steps == 0 {
+        return EMPTY;
+    }
+    let crew = || area.chunks_exact(STEP_BYTES).take(steps);
     let all_by = |person: usize| crew().all(|pair| pair[4..] == job.people[person].tag.to_le_bytes());
     match (all_by(0), all_by(job.people.len() - 1)) {
         (true, true) => ONLY,
@@ -54,12 +74,23 @@ fn of_crew(job: &Job, answer: &Answer) -> Vec<String> {
         _ => refusal(NO_PLAN),
     };
     let much = MUCH.iter().filter(|(_, has)| has(job)).map(|(much, _)| with_much(much, &end));
-    much.chain([end.clone()]).collect()
+    let short = answer.number == 0 && answer.area.len() < STEP_BYTES * job.steps.len();
+    much.chain([end.clone()]).chain(short.then(|| SHORT_FOR_ALL.to_string())).collect()
+}
+
+/// The ends of a spare call that has found a count.
+fn of_spare(job: &Job, answer: &Answer, cap: u32) -> Vec<String> {
+    let mut ends = vec![spare(answer.area[0].into(), cap)];
+    if job.remaining().next().is_none() {
+        ends.push(all_skipped(cap));
+        ends.extend((job.people.len() < cap as usize).then(|| FEWER_PEOPLE.to_string()));
+    }
+    ends
 }
 
 fn ends(call: Call, sheet: &[u8], answer: &Answer) -> Vec<String> {
     match (call, Refusal::of(answer.number)) {
-        (Call::Spare { cap }, None) => vec![spare(answer.area[0].into(), cap)],
+        (Call::Spare { cap }, None) => of_spare(&read(sheet).expect("a job was planned"), answer, cap),
         (Call::Spare { .. }, Some(known)) => vec![refusal(known.number)],
         (_, Some(known)) if known.number != NO_PLAN => vec![refusal(known.number)],
         _ => of_crew(&read(sheet).expect("a job was planned"), answer),
@@ -75,16 +106,17 @@ pub fn of(call: Call, sheet: &[u8], answer: &Answer) -> Vec<String> {
     of_call(call, ends(call, sheet, answer)).collect()
 }
 
-/// Every kind: each refusal of each call, the short area among them, every spare count, and crews by their place and by the size
-/// of their job.
+/// Every kind: each refusal of each call, the short area among them, every spare count, crews by their place and by the size
+/// of their job, and what skipped steps change.
 pub fn all() -> Vec<String> {
     let refusals = |more: &[u32]| [more, &Vec::from_iter(BAD_LENGTH..=NO_PLAN)].concat().into_iter().map(refusal);
     let tried = [FIRST.to_string(), LATER.to_string(), LAST.to_string(), refusal(NO_PLAN)];
     let mut crews: Vec<String> = refusals(&[SHORT_ANSWER]).collect();
-    crews.extend([ONLY, FIRST, LATER, LAST].map(String::from));
+    crews.extend([EMPTY, ONLY, FIRST, LATER, LAST, SHORT_FOR_ALL].map(String::from));
     crews.extend(tried.iter().flat_map(|end| MUCH.map(|(much, _)| with_much(much, end))));
     let mut spares: Vec<String> = refusals(&[SHORT_ANSWER, CAP_TOO_HIGH]).collect();
     spares.extend((0..=MOST_CAP).flat_map(|cap| (0..=cap).map(move |count| spare(count, cap))));
+    spares.extend((0..=MOST_CAP).map(all_skipped).chain([FEWER_PEOPLE.to_string()]));
     let kinds = CREWS.into_iter().flat_map(|call| of_call(call, crews.clone()));
     kinds.chain(of_call(Call::Spare { cap: 0 }, spares)).collect()
 }
@@ -93,7 +125,7 @@ pub fn all() -> Vec<String> {
 mod tests {
     use super::*;
     use model::answers::answer;
-    use model::builder::{last_alone, lay, plain, sheet_w, w_and, Draft};
+    use model::builder::{last_alone, lay, one_by_one, plain, plain_job, sheet_w, skipped_w, skipping, w_and, Draft};
     use std::collections::BTreeSet;
 
     fn kinds(call: Call, sheet: &Draft, room: usize) -> Vec<String> {
@@ -128,11 +160,30 @@ mod tests {
     }
 
     #[test]
+    fn skipped_steps_have_kinds_of_their_own() {
+        let crew = |sheet: &Draft, room| kinds(Call::Crew, sheet, room);
+        let one = sheet_w().skip(6);
+        assert_eq!(crew(&one, 24), ["crew, some steps skipped, the first plan", "crew, the first plan"]);
+        assert_eq!(crew(&one, 16).last().unwrap(), "crew, an area too short for the skipped steps");
+        assert_eq!(crew(&one, 15), ["crew, refusal  1"]);
+        assert_eq!(crew(&skipped_w(), 24), ["crew, the empty plan"]);
+        let large = lay(&skipping(plain_job(64, 12, 0), 1..12));
+        assert_eq!(crew(&large, 96), ["crew, some of 12 steps skipped, the first plan", "crew, the first plan"]);
+        let lone = one_by_one(1).skip(2);
+        assert_eq!(kinds(Call::Spare { cap: 1 }, &lone, 16), ["spare, 1 of 1", "spare, all steps skipped, 1 of 1"]);
+        assert_eq!(
+            kinds(Call::Spare { cap: 2 }, &lone, 16).last().unwrap(),
+            "spare, all steps skipped, fewer people than the cap"
+        );
+    }
+
+    #[test]
     fn what_is_wanted_is_different_and_what_answers_show() {
         let wanted: BTreeSet<String> = all().into_iter().collect();
         assert_eq!(wanted.len(), all().len());
         for call in [Call::Crew, Call::CrewByTrial, Call::Spare { cap: 2 }] {
-            for sheet in [sheet_w(), Draft::of(vec![]), lay(&last_alone(2, 12)), w_and(3, 3, 1, 7)] {
+            let sheets = [sheet_w(), Draft::of(vec![]), lay(&last_alone(2, 12)), w_and(3, 3, 1, 7)];
+            for sheet in sheets.into_iter().chain([sheet_w().skip(5), one_by_one(1).skip(2)]) {
                 assert!(kinds(call, &sheet, 100).iter().all(|kind| wanted.contains(kind)));
             }
         }

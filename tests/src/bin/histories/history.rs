@@ -107,9 +107,8 @@ impl History {
             return fault;
         }
         if let Some((job, plans)) = &mut self.open {
-            let tag = |plan: &Plan, place: usize| job.people[plan[place]].tag;
             let place = job.steps.iter().position(|known| known.tag == step).expect("a granted step is known");
-            plans.retain(|plan| tag(plan, place) == person);
+            plans.retain(|plan| plan[place].is_some_and(|given| job.people[given].tag == person));
         }
         self.law()
     }

@@ -1,6 +1,7 @@
 //! What kind of case a call is, by the model alone. A run in which a kind never came up has failed.
 
 use model::job::{Job, MOST_PEOPLE, MOST_STEPS};
+use model::reader::read;
 use model::refusal::{Refusal, BAD_LENGTH, NOT_GRANTED, NO_PLAN, STEP_SIGNED, UNKNOWN};
 use model::signing::{has_plan, Signers, Work, MOST_REFUSALS};
 
@@ -15,12 +16,14 @@ pub struct Before<'a> {
     pub refused_before: bool,
 }
 
-const NAMED: [&str; 43] = [
+const NAMED: [&str; 52] = [
     "opened, never opened before",
     "opened, over memory that no call has made",
     "opened again, another sheet, over signings and a count",
     "opened again, the same sheet, over signings and a count",
     "opened again, a shorter sheet",
+    "opened, some steps skipped",
+    "opened, all steps skipped",
     "opening refused, never opened",
     "opening refused, over signings and a count",
     "opening refused, no plan, over signings and a count",
@@ -34,6 +37,8 @@ const NAMED: [&str; 43] = [
     "granted, one tag for step and person",
     "granted, with the count at its stop",
     "granted, on memory that no call has made",
+    "granted, behind a skipped step",
+    "granted, the last, before a skipped step",
     "14, never opened",
     "14, a sheet longer than any",
     "14, no readable sheet held",
@@ -47,15 +52,20 @@ const NAMED: [&str; 43] = [
     "14, a step's tag for the person",
     "14, a step of an earlier sheet",
     "14, a person of an earlier sheet",
+    "14, a skipped step, by somebody permitted it",
+    "14, a skipped step, all others signed",
+    "14, a skipped step, all steps skipped",
     "15, by the signer",
     "15, by another who is permitted",
     "15, by somebody not permitted",
     "15, with no step open",
     "15, a signer who is not on the sheet",
+    "15, behind a skipped step",
     "16, not permitted",
     "16, permitted, in no plan at all",
     "16, permitted, for what was granted before",
     "16, for signers that no call has written",
+    "16, behind a skipped step, for what was granted before",
     "counted, to the stop",
     "not counted, at the stop",
     "not counted, above the stop",
@@ -93,12 +103,15 @@ pub fn of_opening(before: &Before, sheet: &[u8], number: u32) -> Vec<String> {
     let (new, used) = (is_new(work), made && is_used(work));
     let same = work.held() == Some(sheet);
     let (opened, refused) = (refusal == 0, refusal != 0);
+    let (left, steps) = read(sheet).map_or((0, 0), |job| (job.remaining().count(), job.steps.len()));
     let mut kinds = given(&[
         (opened && new, "opened, never opened before"),
         (opened && !made, "opened, over memory that no call has made"),
         (opened && used && !same, "opened again, another sheet, over signings and a count"),
         (opened && used && same, "opened again, the same sheet, over signings and a count"),
         (opened && made && sheet.len() < work.sheet_len as usize, "opened again, a shorter sheet"),
+        (opened && 0 < left && left < steps, "opened, some steps skipped"),
+        (opened && left == 0, "opened, all steps skipped"),
         (refused && new, "opening refused, never opened"),
         (refused && used, "opening refused, over signings and a count"),
         (refusal == NO_PLAN && used, "opening refused, no plan, over signings and a count"),
@@ -136,8 +149,22 @@ fn of_nothing_held(work: &Work) -> Vec<String> {
     ])
 }
 
-fn step_at(job: &Job, tag: u32) -> Option<usize> {
-    job.steps.iter().position(|step| step.tag == tag)
+/// A step that remains: its place among those, which is that of its signer, and its place on the chain.
+struct Place {
+    entry: usize,
+    step: usize,
+}
+
+impl Place {
+    /// Whether an earlier step is skipped.
+    fn is_behind_skipped(&self) -> bool {
+        self.entry < self.step
+    }
+}
+
+fn step_at(job: &Job, tag: u32) -> Option<Place> {
+    let mut places = job.remaining().enumerate().map(|(entry, step)| Place { entry, step });
+    places.find(|place| job.steps[place.step].tag == tag)
 }
 
 fn person_at(job: &Job, tag: u32) -> Option<usize> {
@@ -145,18 +172,24 @@ fn person_at(job: &Job, tag: u32) -> Option<usize> {
 }
 
 fn is_open(work: &Work) -> impl Fn(usize) -> bool + '_ {
-    |step| work.signer[step] == 0
+    |entry| work.signer[entry] == 0
 }
 
 fn of_grant(before: &Before, job: &Job, step: u32, person: u32) -> Vec<String> {
     let place = step_at(job, step).expect("a step that is granted is known");
-    let open = (0..job.steps.len()).filter(|&step| is_open(before.work)(step)).count();
+    let steps = job.remaining().count();
+    let open = (0..steps).filter(|&entry| is_open(before.work)(entry)).count();
     given(&[
-        (open == job.steps.len(), "granted, the first"),
+        (open == steps, "granted, the first"),
         (open == 1, "granted, the last"),
-        ((0..place).any(is_open(before.work)), "granted, before an earlier step"),
+        (
+            open == 1 && job.steps[place.step..].iter().any(|step| step.skipped),
+            "granted, the last, before a skipped step",
+        ),
+        (place.is_behind_skipped(), "granted, behind a skipped step"),
+        ((0..place.entry).any(is_open(before.work)), "granted, before an earlier step"),
         (before.refused_before, "granted, after a refused opening"),
-        (place + 1 == MOST_STEPS, "granted, the twelfth step"),
+        (place.entry + 1 == MOST_STEPS, "granted, the twelfth step"),
         (person_at(job, person) == Some(MOST_PEOPLE - 1), "granted, the 64th person"),
         (step == person, "granted, one tag for step and person"),
         (before.work.refusals == MOST_REFUSALS, "granted, with the count at its stop"),
@@ -165,9 +198,19 @@ fn of_grant(before: &Before, job: &Job, step: u32, person: u32) -> Vec<String> {
 }
 
 fn of_unknown(before: &Before, job: &Job, step: u32, person: u32) -> Vec<String> {
-    let (place, known) = (step_at(job, step), person_at(job, person).is_some());
-    let signed = place.is_some_and(|place| !is_open(before.work)(place));
+    let (place, by) = (step_at(job, step), person_at(job, person));
+    let known = by.is_some();
+    let signed = place.as_ref().is_some_and(|place| !is_open(before.work)(place.entry));
     let old = |tag: u32| before.made && before.old.contains(&tag);
+    if let Some(skipped) = job.steps.iter().position(|known| known.skipped && known.tag == step) {
+        let steps = job.remaining().count();
+        let none_open = before.made && !(0..steps).any(is_open(before.work));
+        return given(&[
+            (by.is_some_and(|by| job.people[by].may(skipped)), "14, a skipped step, by somebody permitted it"),
+            (known && steps > 0 && none_open, "14, a skipped step, all others signed"),
+            (known && steps == 0, "14, a skipped step, all steps skipped"),
+        ]);
+    }
     given(&[
         (place.is_none() && known, "14, step unknown"),
         (place.is_some() && !signed, "14, person unknown at an open step"),
@@ -185,14 +228,15 @@ fn of_unknown(before: &Before, job: &Job, step: u32, person: u32) -> Vec<String>
 fn of_signed(work: &Work, job: &Job, step: u32, person: u32) -> Vec<String> {
     let place = step_at(job, step).expect("14 comes first");
     let person = person_at(job, person).expect("14 comes first");
-    let signer = usize::from(work.signer[place]) - 1;
-    let may = job.people[person].may(place);
+    let signer = usize::from(work.signer[place.entry]) - 1;
+    let may = job.people[person].may(place.step);
     given(&[
         (person == signer, "15, by the signer"),
         (person != signer && may, "15, by another who is permitted"),
         (person != signer && !may, "15, by somebody not permitted"),
-        (!(0..job.steps.len()).any(is_open(work)), "15, with no step open"),
+        (!(0..job.remaining().count()).any(is_open(work)), "15, with no step open"),
         (signer >= job.people.len(), "15, a signer who is not on the sheet"),
+        (place.is_behind_skipped(), "15, behind a skipped step"),
     ])
 }
 
@@ -200,12 +244,14 @@ fn of_refused(before: &Before, job: &Job, step: u32, person: u32) -> Vec<String>
     let place = step_at(job, step).expect("14 comes first");
     let person = person_at(job, person).expect("14 comes first");
     let mut alone: Signers = [0; MOST_STEPS];
-    alone[place] = person as u8 + 1;
-    let (may, planned) = (job.people[person].may(place), has_plan(job, &alone));
+    alone[place.entry] = person as u8 + 1;
+    let (may, planned) = (job.people[person].may(place.step), has_plan(job, &alone));
+    let bound = before.made && planned;
     given(&[
         (!may, "16, not permitted"),
         (may && !planned, "16, permitted, in no plan at all"),
-        (before.made && planned, "16, permitted, for what was granted before"),
+        (bound, "16, permitted, for what was granted before"),
+        (bound && place.is_behind_skipped(), "16, behind a skipped step, for what was granted before"),
         (!before.made && planned, "16, for signers that no call has written"),
     ])
 }

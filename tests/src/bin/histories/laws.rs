@@ -3,7 +3,7 @@
 
 use model::job::Job;
 use model::library;
-use model::plans::{is_valid, Plan};
+use model::plans::{is_valid, plan_by, Plan};
 use model::signing::Work;
 
 /// The people whom the library would grant a step, by their places in crew order.
@@ -19,18 +19,18 @@ fn open_step(work: &Work, job: &Job, agreeing: &[Plan], step: usize) -> Option<S
     if found.is_empty() {
         return Some(format!("step {step} is open, and nobody would be granted it"));
     }
-    let planned = |&person: &usize| agreeing.iter().any(|plan| plan[step] == person);
+    let planned = |&person: &usize| agreeing.iter().any(|plan| plan[step] == Some(person));
     let expected: Vec<usize> = (0..job.people.len()).filter(planned).collect();
     (found != expected).then(|| format!("step {step} would be granted to {found:?}, expected {expected:?}"))
 }
 
 /// What is broken; `agreeing` are the valid plans that agree with all granted so far.
 pub fn fault(work: &Work, job: &Job, agreeing: &[Plan]) -> Option<String> {
-    let open: Vec<usize> = (0..job.steps.len()).filter(|&step| work.signer[step] == 0).collect();
-    if open.is_empty() {
-        let plan: Plan = work.signer[..job.steps.len()].iter().map(|&signer| usize::from(signer) - 1).collect();
-        let good = plan.iter().all(|&person| person < job.people.len()) && is_valid(job, &plan);
+    let mut open = job.remaining().zip(work.signer).filter(|(_, signer)| *signer == 0).map(|(step, _)| step).peekable();
+    if open.peek().is_none() {
+        let plan = plan_by(job, work.signer.map(|signer| usize::from(signer).wrapping_sub(1)));
+        let good = plan.iter().flatten().all(|&person| person < job.people.len()) && is_valid(job, &plan);
         return (!good).then(|| format!("no step is open, and {plan:?} is no valid plan"));
     }
-    open.into_iter().find_map(|step| open_step(work, job, agreeing, step))
+    open.find_map(|step| open_step(work, job, agreeing, step))
 }

@@ -15,7 +15,7 @@ pub enum Move {
 /// `old` are tags of sheets that were held before.
 pub fn any(random: &mut Random, work: &Work, old: &[u32]) -> Move {
     let job = work.job();
-    let done = job.as_ref().is_some_and(|job| (0..job.steps.len()).all(|step| work.signer[step] != 0));
+    let done = job.as_ref().is_some_and(|job| signers(work, job).all(|(_, signer)| signer != 0));
     let often = if job.is_none() || done { 2 } else { 12 };
     if random.once_in(often) {
         return Move::Open(any_sheet(random, work));
@@ -78,6 +78,11 @@ fn any_number(random: &mut Random) -> u32 {
     }
 }
 
+/// The steps that remain, by their places on the chain, with their signers.
+fn signers<'a>(work: &'a Work, job: &'a Job) -> impl Iterator<Item = (usize, u8)> + 'a {
+    job.remaining().zip(work.signer)
+}
+
 fn people(job: &Job) -> Vec<u32> {
     job.people.iter().map(|person| person.tag).collect()
 }
@@ -88,13 +93,15 @@ fn steps(job: &Job) -> Vec<u32> {
 
 fn any_step(random: &mut Random, work: &Work, job: &Job, old: &[u32]) -> u32 {
     let all = steps(job);
-    let (signed, open): (Vec<usize>, Vec<usize>) = (0..all.len()).partition(|&step| work.signer[step] != 0);
-    let tags = |places: Vec<usize>| places.into_iter().map(|step| all[step]).collect::<Vec<u32>>();
+    let (signed, open): (Vec<_>, Vec<_>) = signers(work, job).partition(|(_, signer)| *signer != 0);
+    let skipped: Vec<u32> = job.steps.iter().filter(|step| step.skipped).map(|step| step.tag).collect();
+    let tags = |known: Vec<(usize, u8)>| known.into_iter().map(|(step, _)| all[step]).collect::<Vec<u32>>();
     let chosen = match random.below(20) {
         0 => return any_number(random),
         1 => people(job),
         2 => old.to_vec(),
         3..=6 if !signed.is_empty() => tags(signed),
+        7..=8 if !skipped.is_empty() => skipped,
         _ if !open.is_empty() => tags(open),
         _ => all,
     };
@@ -105,7 +112,8 @@ fn any_step(random: &mut Random, work: &Work, job: &Job, old: &[u32]) -> u32 {
 fn any_person(random: &mut Random, work: &Work, job: &Job, step: u32, old: &[u32]) -> u32 {
     let all = people(job);
     let place = job.steps.iter().position(|known| known.tag == step);
-    let signer = place.and_then(|place| all.get(usize::from(work.signer[place]).wrapping_sub(1)).copied());
+    let (_, signer) = signers(work, job).find(|(known, _)| Some(*known) == place).unwrap_or_default();
+    let signer = all.get(usize::from(signer).wrapping_sub(1)).copied();
     let chosen = match random.below(20) {
         0 => return any_number(random),
         1 => steps(job),

@@ -1,6 +1,7 @@
 //! What the listings of both programs show.
 
-use model::job::MOST_RULES;
+use model::job::{Job, MOST_RULES};
+use sheet_tests::skipped::skips_some;
 
 /// A listing that is no refusal, and how many of these there have to be.
 pub const PLAN: &str = "a plan";
@@ -12,6 +13,10 @@ const ALL_RULES: &str = "a plan, 64 RULE lines";
 /// What is wanted of the RULE lines of both.
 pub const RULES: [&str; 2] = [NO_RULE, ALL_RULES];
 
+/// What is wanted of skipped steps of both.
+pub const SKIPPED: [&str; 3] =
+    ["a plan, some steps skipped", "a plan, all steps skipped", "a plan, all steps skipped, one person"];
+
 pub fn refusal(number: u32) -> String {
     format!("refusal {number:2}")
 }
@@ -22,11 +27,14 @@ pub fn lines<'a>(listing: &'a str, word: &'static str) -> impl Iterator<Item = &
 }
 
 /// The first kinds of a listing that is no refusal.
-pub fn of_plan(listing: &str) -> Vec<String> {
+pub fn of_plan(job: &Job, listing: &str) -> Vec<String> {
+    let none_left = job.remaining().next().is_none();
+    let met = [skips_some(job), none_left, none_left && job.people.len() == 1];
+    let skipped = SKIPPED.into_iter().zip(met).filter(|(_, met)| *met).map(|(kind, _)| kind);
     let rules = match lines(listing, "RULE").count() {
         0 => Some(NO_RULE),
         MOST_RULES => Some(ALL_RULES),
         _ => None,
     };
-    [PLAN].into_iter().chain(rules).map(String::from).collect()
+    [PLAN].into_iter().chain(rules).chain(skipped).map(String::from).collect()
 }

@@ -6,6 +6,8 @@ use native.Mathlib.Omega.{arith}
 use borrow.Author.Needs.{needs}
 use lib.ListN.{getD}
 use Rattle.bits.specs.Word.{hasBit}
+use Rattle.bits.proofs.Masks.{size-same}
+use Rattle.bits.proofs.Ones.{ones-bits}
 use Rattle.bits.proofs.Scan.{Passed, passed-none, passed-more, passed-found, passed-all}
 use Rattle.workflow.specs.Problem.{met}
 use Rattle.workflow.specs.First.{planOf}
@@ -53,44 +55,57 @@ rule-count-requires c κs =
     let i = t .before .loop .i in
     (columns s, s .pre .scoped i (t .loop-test .taken), λ u h. s .pre .staffed i u (t .loop-test .taken) h)
 
+mul-size : tie.Need-mul-size Inv-loop μ-loop
+mul-size c = omega (arith, below (c .before .before .before .before))
+
+array-read-size : tie.Need-array-read-size Inv-loop μ-loop
+array-read-size c = below (c .before .before .before .before)
+
+size-requires : tie.Need-size-requires Inv-loop μ-loop
+size-requires c κs = tt
+
 array-read-is-met : tie.Need-array-read-is-met Inv-loop μ-loop
-array-read-is-met c = below (c .before .before .before .before)
+array-read-is-met c = below (c .before .before .before .before .before)
 
 array-read-is-met-2 : tie.Need-array-read-is-met-2 Inv-loop μ-loop
-array-read-is-met-2 c = below (c .before .before .before .before)
+array-read-is-met-2 c = below (c .before .before .before .before .before)
 
 is-met-requires : tie.Need-is-met-requires Inv-loop μ-loop
 is-met-requires c κs = tt
 
 -- what is said of a rule
-said : (c : tie.After-is-met Inv-loop μ-loop) → let t = c .before .before .before .before .before in
+said : (c : tie.After-is-met Inv-loop μ-loop) → let t = c .before .before .before .before .before .before in
     let s = start (t .before) .args in
     ForInstances (s .rules) (s .t1) (λ j. c .is-met .result ≡ met j (j .rule (t .before .loop .i)) (planOf (s .plan .now)))
 said c people steps w =
-    let n = c .before in
+    let n = c .before .before in
     let t = n .before .before .before .before in
     let s = start (t .before) .args in
     let i = t .before .loop .i in
+    let few = start (t .before) .pre .scoped i (t .loop-test .taken) in
     said-met (instanceOf people steps (s .rules) (s .t1)) (kindIn (getD (s .t1 .«rule_kind») i 0)) (getD (s .t1 .«rule_level») i 0)
-    (getD (s .t1 .«rule_limit») i 0) (hasBit (getD (s .t1 .«rule_scope») i 0)) (planOf (s .plan .now)) (n .rule-count .result) (c .is-met .result)
+    (getD (s .t1 .«rule_limit») i 0) (hasBit (getD (s .t1 .«rule_scope») i 0)) (planOf (s .plan .now)) (c .before .size .result) (n .rule-count .result)
+    (c .is-met .result)
+    (c .before .size .ensures .0 ∙ ones-bits 16 (getD (s .t1 .«rule_scope») i 0) (omega arith)
+    ∙ size-same 16 steps (getD (s .t1 .«rule_scope») i 0) (omega arith) (w i (t .loop-test .taken)))
     (n .rule-count .ensures .1 steps (w i (t .loop-test .taken))) (c .is-met .ensures)
 
 returns : tie.Need-returns Inv-loop μ-loop
 returns c people steps w =
     let h = c .before in
-    let t = h .before .before .before .before .before in
+    let t = h .before .before .before .before .before .before in
     passed-found _ _ _ (t .before .loop .inv people steps w) (t .loop-test .taken) (ap not (sym (said h people steps w)) ∙ c .if1 .taken)
 
 add-i : tie.Need-add-i Inv-loop μ-loop
-add-i c = omega (arith, below (c .before .before .before .before .before .before))
+add-i c = omega (arith, below (c .before .before .before .before .before .before .before))
 
 loop-less : tie.Need-loop-less Inv-loop μ-loop
-loop-less c = omega (arith, c .before .before .before .before .before .before .loop-test .taken)
+loop-less c = omega (arith, c .before .before .before .before .before .before .before .loop-test .taken)
 
 loop-again : tie.Need-loop-again Inv-loop μ-loop
 loop-again c people steps w =
     let h = c .before in
-    let t = h .before .before .before .before .before in
+    let t = h .before .before .before .before .before .before in
     passed-more _ _ _ (t .before .loop .inv people steps w) (t .loop-test .taken) (ap not (sym (said h people steps w)) ∙ c .if1 .left)
 
 returns-2 : tie.Need-returns-2 Inv-loop μ-loop
@@ -99,5 +114,5 @@ returns-2 c people steps w = passed-all _ _ _ (c .before .loop .inv people steps
 pub first-broken-spec : {M : Type 1} → statement M
 first-broken-spec =
     tie.close
-    (tie.spec Inv-loop μ-loop loop-holds array-read-rule-count mul-rule-count array-read-rule-count-2 rule-count-requires array-read-is-met
-    array-read-is-met-2 is-met-requires returns add-i loop-less loop-again returns-2)
+    (tie.spec Inv-loop μ-loop loop-holds array-read-rule-count mul-rule-count array-read-rule-count-2 rule-count-requires mul-size array-read-size size-requires
+    array-read-is-met array-read-is-met-2 is-met-requires returns add-i loop-less loop-again returns-2)

@@ -45,21 +45,25 @@ bytes-requires-2 c κs = search needs
 bytes-requires-3 : tie.Need-bytes-requires-3
 bytes-requires-3 c κs = (start (tagged (c .before .before .before .before .before)) .pre .3, omega arith)
 
+bytes-requires-4 : tie.Need-bytes-requires-4
+bytes-requires-4 c κs = (start (tagged (c .before .before .before .before .before .before)) .pre .1, omega arith)
+
 returns : tie.Need-returns
 unfolding jobOf
 returns c =
     λ i.
-    let w = c .before .before .before .before .before .before in
+    let w = c .before .before .before .before .before .before .before in
     record {
       «person_tag» = tagged w .tags .ensures i;
       «step_tag» = w .before .before .tags2 .ensures i;
+      skipped = c .bytes4 .ensures i;
       shop = w .words .ensures i;
-      bench = c .before .before .before .before .before .words2 .ensures i;
-      permitted = c .before .before .before .before .words3 .ensures i;
-      «rule_scope» = c .before .before .before .words4 .ensures i;
-      «rule_kind» = c .before .before .bytes .ensures i;
-      «rule_level» = c .before .bytes2 .ensures i;
-      «rule_limit» = c .bytes3 .ensures i;
+      bench = c .before .before .before .before .before .before .words2 .ensures i;
+      permitted = c .before .before .before .before .before .words3 .ensures i;
+      «rule_scope» = c .before .before .before .before .words4 .ensures i;
+      «rule_kind» = c .before .before .before .bytes .ensures i;
+      «rule_level» = c .before .before .bytes2 .ensures i;
+      «rule_limit» = c .before .bytes3 .ensures i;
     }
 
 pub fill-job-spec : {M : Type 1} → statement M
@@ -77,4 +81,5 @@ fill-job-spec =
     bytes-requires
     bytes-requires-2
     bytes-requires-3
+    bytes-requires-4
     returns)

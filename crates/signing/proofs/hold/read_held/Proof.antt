@@ -5,7 +5,7 @@ use Prim.Native.Nat.{ℕ, _≤_}
 use borrow.Author.Needs.{needs}
 use lib.ListN.{length, take}
 use lib.Seq.{length-take-le}
-use Rattle.sheet.specs.Answer.{sheetOf}
+use Rattle.remaining.specs.Remaining.{remainingOf}
 use Rattle.signing.specs.State.{held}
 use Rattle.signing.proofs.Holding.{length-most}
 use Rattle.signing.proofs.hold.read_held.Statement.{statement}
@@ -27,17 +27,17 @@ held-length-requires c κs = search needs
 array-share-prefix-sheet : tie.Need-array-share-prefix-sheet
 array-share-prefix-sheet c = within c
 
-slice-aggregate-read-sheet : tie.Need-slice-aggregate-read-sheet
-slice-aggregate-read-sheet c = sym (length-take-le _ _ (within (c .before)))
+slice-aggregate-read-job : tie.Need-slice-aggregate-read-job
+slice-aggregate-read-job c = sym (length-take-le _ _ (within (c .before)))
 
-read-sheet-requires : tie.Need-read-sheet-requires
-read-sheet-requires c κs = search needs
+read-job-requires : tie.Need-read-job-requires
+read-job-requires c κs = search needs
 
 returns : tie.Need-returns
 unfolding held
 returns c =
     let h = c .before .before in
-    c .read-sheet .ensures ∙ ap (λ (n : ℕ). sheetOf (take n (start h .args .job .sheet))) (h .held-length .ensures)
+    c .read-job .ensures ∙ ap (λ (n : ℕ). remainingOf (take n (start h .args .job .sheet))) (h .held-length .ensures)
 
 pub read-held-spec : {M : Type 1} → statement M
 read-held-spec =
@@ -45,6 +45,6 @@ read-held-spec =
     (tie.spec
     held-length-requires
     array-share-prefix-sheet
-    slice-aggregate-read-sheet
-    read-sheet-requires
+    slice-aggregate-read-job
+    read-job-requires
     returns)

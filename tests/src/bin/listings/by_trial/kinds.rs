@@ -1,11 +1,12 @@
 //! What a listing shows. A run in which one of these was never met has failed.
 
-use crate::kinds::{lines, of_plan, refusal, PLAN, RULES};
-use model::job::{Job, AT_LEAST, BY_PERSON, BY_SHOP, MOST_RULES, SAME};
+use crate::kinds::{lines, of_plan, refusal, PLAN, RULES, SKIPPED};
+use model::job::{Job, AT_LEAST, AT_MOST, BY_PERSON, BY_SHOP, MOST_RULES, SAME};
 use model::plans::plans;
 use model::reader::read;
 use model::refusal::{BAD_LENGTH, LOOSE_CARD};
 use model::trial::{plan_at, verdict, Verdict, SHOWN};
+use sheet_tests::skipped::skips_some;
 use std::collections::BTreeSet;
 
 /// The next number of plans that a sheet can have.
@@ -29,8 +30,20 @@ const CARRY: &str = "a TRY line after a carry over all steps but the first";
 
 const LONG: &str = "TRIED more than two bytes can count";
 
+const DENIED_BEHIND: &str = "a TRY line, DENIED a step behind a skipped one";
+const NOBODY: &str = "a TRY line without people";
+const NONE_VALID_SKIPPED: &str = "no plan, some steps skipped";
+
+/// The end of a listing on a sheet that has just so many plans because steps are skipped.
+const LEFT: &str = "some steps skipped";
+
 fn breaks(kind: u8, level: u8) -> String {
     format!("a TRY line, BREAKS a rule of kind {kind} and level {level}")
+}
+
+/// Of a rule that has lost steps: kinds 1 and 2 are met then.
+fn breaks_left(kind: u8) -> String {
+    format!("a TRY line, BREAKS a rule of kind {kind} left with fewer steps")
 }
 
 fn just(plans: u128, end: &str) -> String {
@@ -44,31 +57,49 @@ pub fn all() -> Vec<String> {
     kinds.extend([BREAKS_FIRST, BREAKS_LATER, BREAKS_LAST].map(String::from));
     kinds.extend([VALID_FIRST, VALID_LATER, VALID_LAST].map(String::from));
     kinds.extend([NONE_VALID, CARRY, LONG].map(String::from));
+    kinds.extend(SKIPPED.map(String::from));
+    kinds.extend([DENIED_BEHIND, NOBODY, NONE_VALID_SKIPPED].map(String::from));
+    kinds.extend([AT_MOST, AT_LEAST].map(breaks_left));
     kinds.extend((SAME..=AT_LEAST).flat_map(|kind| (BY_SHOP..=BY_PERSON).map(move |level| breaks(kind, level))));
-    kinds.extend([PLAN, NONE_VALID].into_iter().flat_map(|end| [SHOWN, NOT_SHOWN].map(|plans| just(plans, end))));
+    kinds.extend([PLAN, NONE_VALID, LEFT].into_iter().flat_map(|end| [SHOWN, NOT_SHOWN].map(|plans| just(plans, end))));
     kinds.extend((BAD_LENGTH..=LOOSE_CARD).map(refusal));
     kinds
 }
 
+/// The first and the last are those of the steps that remain.
+fn of_denied(job: &Job, step: usize) -> Vec<String> {
+    let at = match (job.remaining().next(), job.remaining().last()) {
+        (Some(first), _) if step == first => DENIED_FIRST,
+        (_, Some(last)) if step == last => DENIED_LAST,
+        _ => DENIED_LATER,
+    };
+    let behind = job.steps[..step].iter().any(|step| step.skipped).then_some(DENIED_BEHIND);
+    [at].into_iter().chain(behind).map(String::from).collect()
+}
+
+fn of_broken(job: &Job, rule: usize) -> Vec<String> {
+    let broken = &job.rules[rule];
+    let at = match rule + 1 {
+        1 => BREAKS_FIRST,
+        MOST_RULES => BREAKS_LAST,
+        _ => BREAKS_LATER,
+    };
+    let has_lost = job.left(broken.scope).count() < broken.scope.count_ones() as usize;
+    let left = has_lost.then(|| breaks_left(broken.kind));
+    [at.to_string(), breaks(broken.kind, broken.level)].into_iter().chain(left).collect()
+}
+
 /// The kinds of the TRY line at a place, from 0 on.
 fn of_trial(job: &Job, place: u128) -> Vec<String> {
-    match verdict(job, &plan_at(job, place)) {
-        Verdict::Denied { step: 0 } => vec![DENIED_FIRST.to_string()],
-        Verdict::Denied { step } if step + 1 == job.steps.len() => vec![DENIED_LAST.to_string()],
-        Verdict::Denied { .. } => vec![DENIED_LATER.to_string()],
-        Verdict::Breaks { rule } => {
-            let broken = &job.rules[rule];
-            let at = match rule + 1 {
-                1 => BREAKS_FIRST,
-                MOST_RULES => BREAKS_LAST,
-                _ => BREAKS_LATER,
-            };
-            vec![at.to_string(), breaks(broken.kind, broken.level)]
-        }
-        Verdict::Valid if place == 0 => vec![VALID_FIRST.to_string()],
-        Verdict::Valid if place + 1 == plans(job) => vec![VALID_LAST.to_string()],
-        Verdict::Valid => vec![VALID_LATER.to_string()],
-    }
+    let valid = match verdict(job, &plan_at(job, place)) {
+        Verdict::Denied { step } => return of_denied(job, step),
+        Verdict::Breaks { rule } => return of_broken(job, rule),
+        Verdict::Valid if job.remaining().next().is_none() => NOBODY,
+        Verdict::Valid if place == 0 => VALID_FIRST,
+        Verdict::Valid if place + 1 == plans(job) => VALID_LAST,
+        Verdict::Valid => VALID_LATER,
+    };
+    vec![valid.to_string()]
 }
 
 /// The kinds of all TRY lines, each once.
@@ -76,7 +107,7 @@ fn of_shown(job: &Job, shown: u128) -> BTreeSet<String> {
     let mut kinds: BTreeSet<String> = (0..shown).flat_map(|place| of_trial(job, place)).collect();
     // So many plans have the same person at the first step; the next begins with all others anew.
     let alike = plans(job) / job.people.len() as u128;
-    if job.steps.len() > 2 && alike > 1 && shown > alike {
+    if job.remaining().count() > 2 && alike > 1 && shown > alike {
         kinds.insert(CARRY.to_string());
     }
     kinds
@@ -93,13 +124,17 @@ pub fn of(sheet: &[u8], listing: &str) -> Vec<String> {
         Err(refused) => return vec![refusal(refused.number)],
         Ok(job) => job,
     };
-    let ends = match lines(listing, "PLAN").next() {
-        Some(_) => of_plan(listing),
+    let mut ends = match lines(listing, "PLAN").next() {
+        Some(_) => of_plan(&job, listing),
         None => vec![NONE_VALID.to_string()],
     };
+    if ends[0] == NONE_VALID && skips_some(&job) {
+        ends.push(NONE_VALID_SKIPPED.to_string());
+    }
     let mut kinds: Vec<String> = of_shown(&job, lines(listing, "TRY").count() as u128).into_iter().collect();
     if [SHOWN, NOT_SHOWN].contains(&plans(&job)) {
         kinds.push(just(plans(&job), &ends[0]));
+        kinds.extend(skips_some(&job).then(|| just(plans(&job), LEFT)));
     }
     if tried(listing) > u16::MAX.into() {
         kinds.push(LONG.to_string());
@@ -116,8 +151,10 @@ pub fn of_trials(listing: &str) -> Option<String> {
 #[cfg(test)]
 mod tests {
     use super::*;
-    use model::builder::{last_alone, lay, one_by_one, plain, plain_job, rule, sheet_w, w_and, Draft};
-    use model::job::{AT_MOST, DIFFERENT};
+    use model::builder::{
+        last_alone, lay, one_by_one, plain, plain_job, rule, sheet_w, skipped_w, skipping, w_and, Draft,
+    };
+    use model::job::DIFFERENT;
     use model::trial::listing;
 
     fn listed(sheet: &Draft) -> String {
@@ -157,6 +194,32 @@ mod tests {
     }
 
     #[test]
+    fn skipped_steps_have_kinds_of_their_own() {
+        assert_eq!(
+            kinds(sheet_w().skip(5)),
+            [BREAKS_LATER, &breaks(2, 3), VALID_LATER, "a plan", "a plan, some steps skipped"]
+        );
+        let mut none = vec![BREAKS_LATER.to_string()];
+        none.extend([(1, 1), (2, 3), (3, 3)].map(|(kind, level)| breaks(kind, level)));
+        none.push(breaks_left(3));
+        none.extend([DENIED_BEHIND, DENIED_FIRST, "no plan", NONE_VALID_SKIPPED].map(String::from));
+        assert_eq!(kinds(w_and(3, 3, 1, 7).skip(5)), none);
+        assert_eq!(kinds(skipped_w()), [NOBODY, "a plan", "a plan, all steps skipped"]);
+        assert_eq!(kinds(one_by_one(0).skip(2))[4], "a plan, all steps skipped, one person");
+        let left = lay(&skipping(plain_job(10, 5, 1), [0, 3]));
+        assert_eq!(
+            kinds(left),
+            [
+                VALID_FIRST,
+                "1000 plans, a plan",
+                "1000 plans, some steps skipped",
+                "a plan",
+                "a plan, some steps skipped"
+            ]
+        );
+    }
+
+    #[test]
     fn a_trial_is_lost_where_there_is_one() {
         assert_eq!(of_trials(&listed(&sheet_w())).as_deref(), Some("a TRY line"));
         assert_eq!(of_trials(&listed(&plain(4, 5, 0))), None);
@@ -168,7 +231,9 @@ mod tests {
         let wanted = all();
         let sheets =
             [sheet_w(), w_and(3, 3, 1, 7), one_by_one(1), by_the_last_rule(), plain(10, 3, 0), plain(4, 5, 64)];
-        for sheet in sheets.into_iter().chain([lay(&last_alone(2, 3)), lay(&last_alone(17, 4)), sheet_w().cut(24)]) {
+        let skipped = [sheet_w().skip(5), one_by_one(1).skip(2), w_and(3, 3, 1, 7).skip(5)];
+        let alone = [lay(&last_alone(2, 3)), lay(&last_alone(17, 4)), sheet_w().cut(24)];
+        for sheet in sheets.into_iter().chain(alone).chain(skipped) {
             let shown = kinds(sheet);
             assert!(shown.iter().filter(|kind| *kind != PLAN).all(|kind| wanted.contains(kind)), "{shown:?}");
         }

@@ -2,12 +2,13 @@
 //! as many plans as are printed, the next number of them, and garbled ones.
 
 use crate::Drawn;
+use model::builder::skipping;
 use model::garble::sample_of;
-use model::job::{Job, MOST_RULES};
+use model::job::{Job, MOST_RULES, MOST_STEPS};
 use model::jobs::{job_of, laid, last_plan_job, last_rule_job, lopsided_job, small_job, tried_job, with_rules};
 use model::random::Random;
 
-/// People and steps of sheets with as many plans as are printed, and with the next number of them.
+/// People and steps that remain of sheets with as many plans as are printed, and with the next number of them.
 const EDGES: [(usize, usize); 2] = [(10, 3), (4, 5)];
 
 pub fn any(random: &mut Random) -> Drawn {
@@ -27,16 +28,19 @@ pub fn any(random: &mut Random) -> Drawn {
 }
 
 fn at_edge(random: &mut Random) -> Job {
-    let (people, steps) = EDGES[random.below(EDGES.len())];
+    let (people, left) = EDGES[random.below(EDGES.len())];
+    let steps = if random.once_in(2) { left } else { random.within(left, MOST_STEPS) };
     let rules = random.below(8);
-    job_of(random, people, steps, rules)
+    let job = job_of(random, people, steps, rules);
+    let order = random.order(steps);
+    skipping(job, order[left..].iter().map(|step| step - 1))
 }
 
 #[cfg(test)]
 mod tests {
     use super::*;
     use crate::by_trial::kinds::NOT_SHOWN;
-    use model::job::{MOST_PEOPLE, MOST_STEPS};
+    use model::job::MOST_PEOPLE;
     use model::plans::plans_of;
     use model::trial::{listing, SHOWN};
 

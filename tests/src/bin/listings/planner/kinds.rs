@@ -1,9 +1,12 @@
 //! What a listing shows. A run in which one of these was never met has failed.
 
-use crate::kinds::{lines, of_plan, refusal, PLAN, RULES};
-use model::job::{AT_LEAST, AT_MOST, BY_PERSON, BY_SHOP, DIFFERENT, SAME};
+use crate::kinds::{lines, of_plan, refusal, PLAN, RULES, SKIPPED};
+use model::card::{CARD, STEP};
+use model::job::{Job, Rule, AT_LEAST, AT_MOST, BY_PERSON, BY_SHOP, DIFFERENT, SAME};
 use model::listing::CAP;
-use model::refusal::{BAD_LENGTH, NO_PLAN};
+use model::reader::read;
+use model::refusal::{BAD_FIELD, BAD_LENGTH, NO_PLAN};
+use sheet_tests::skipped::skips_some;
 use std::cmp::Ordering::{self, Equal, Greater, Less};
 
 /// A right listing, however it was judged, that a program without its last RULE line cannot print.
@@ -12,6 +15,12 @@ const RULE_LAST: &str = "a RULE line last";
 /// Where the count of a rule that is met may stand to its limit, which is 0 for kinds 1 and 2.
 const COUNTS: [(u8, &[Ordering]); 4] =
     [(SAME, &[Greater]), (DIFFERENT, &[Greater]), (AT_MOST, &[Less, Equal]), (AT_LEAST, &[Equal, Greater])];
+
+/// The same of a rule that has lost steps and is left with two or more: the limit of the last kind may have become smaller.
+const COUNTS_LEFT: [(u8, &[Ordering]); 2] = [(AT_MOST, &[Less, Equal]), (AT_LEAST, &[Less, Equal, Greater])];
+
+const NO_PLAN_SKIPPED: &str = "refusal 13, some steps skipped";
+const BAD_MARK: &str = "refusal  8, a step that is neither skipped nor not";
 
 fn large(shown: &str) -> String {
     format!("too large for the brute force, {shown}")
@@ -30,14 +39,31 @@ fn rule(kind: u8, level: u8, count: Ordering) -> String {
     format!("RULE {kind} {level}, the count {place} the limit")
 }
 
+/// Of a rule that has lost steps.
+fn rule_left(kind: u8, level: u8, left: usize, count: Ordering) -> String {
+    match left {
+        0 => format!("RULE {kind} {level}, left with no step"),
+        1 => format!("RULE {kind} {level}, left with one step"),
+        _ => format!("{}, left with fewer steps", rule(kind, level, count)),
+    }
+}
+
 /// Every kind but the plan, which is wanted more than once.
 pub fn all() -> Vec<String> {
     let mut kinds = RULES.map(String::from).to_vec();
+    kinds.extend(SKIPPED.map(String::from));
+    kinds.extend([NO_PLAN_SKIPPED, BAD_MARK].map(String::from));
     kinds.push(large(PLAN));
     kinds.extend((BAD_LENGTH..=NO_PLAN).map(refusal));
     kinds.extend((0..=CAP).map(spare));
-    for (kind, counts) in COUNTS {
-        kinds.extend((BY_SHOP..=BY_PERSON).flat_map(|level| counts.iter().map(move |&count| rule(kind, level, count))));
+    for level in BY_SHOP..=BY_PERSON {
+        for (kind, counts) in COUNTS {
+            kinds.extend(counts.iter().map(|&count| rule(kind, level, count)));
+            kinds.extend([0, 1].map(|left| rule_left(kind, level, left, Equal)));
+        }
+        for (kind, counts) in COUNTS_LEFT {
+            kinds.extend(counts.iter().map(|&count| rule_left(kind, level, 2, count)));
+        }
     }
     kinds
 }
@@ -47,19 +73,37 @@ fn figures(line: &str) -> Vec<u32> {
     line.split(' ').filter_map(|field| field.parse().ok()).collect()
 }
 
-fn of_rule(line: &str) -> String {
+fn of_rule(job: &Job, held: &Rule, line: &str) -> String {
     let figures = figures(line);
-    rule(figures[0] as u8, figures[1] as u8, figures[3].cmp(&figures[2]))
+    let (kind, level, count) = (figures[0] as u8, figures[1] as u8, figures[3].cmp(&figures[2]));
+    match job.left(held.scope).count() {
+        left if left == held.scope.count_ones() as usize => rule(kind, level, count),
+        left => rule_left(kind, level, left, count),
+    }
+}
+
+fn of_refusal(sheet: &[u8], number: u32, card: usize) -> Vec<String> {
+    let more = match number {
+        NO_PLAN => read(sheet).is_ok_and(|job| skips_some(&job)).then_some(NO_PLAN_SKIPPED),
+        BAD_FIELD => {
+            let held = &sheet[card * CARD..];
+            (held[0] == STEP && held[1] > 1).then_some(BAD_MARK)
+        }
+        _ => None,
+    };
+    [refusal(number)].into_iter().chain(more.map(String::from)).collect()
 }
 
 /// The kinds of a listing that is the model's.
-pub fn of(listing: &str) -> Vec<String> {
+pub fn of(sheet: &[u8], listing: &str) -> Vec<String> {
     if let Some(line) = lines(listing, "REFUSED").next() {
-        return vec![refusal(figures(line)[0])];
+        let figures = figures(line);
+        return of_refusal(sheet, figures[0], figures[1] as usize);
     }
-    let mut kinds = of_plan(listing);
+    let job = read(sheet).expect("the sheet was planned");
+    let mut kinds = of_plan(&job, listing);
     kinds.extend(lines(listing, "SPARE").map(String::from));
-    kinds.extend(lines(listing, "RULE").map(of_rule));
+    kinds.extend(job.rules.iter().zip(lines(listing, "RULE")).map(|(held, line)| of_rule(&job, held, line)));
     kinds
 }
 
@@ -69,8 +113,8 @@ pub fn of_end(listing: &str) -> Option<String> {
 }
 
 /// Of a listing with the program's own crew only the first kind counts.
-pub fn of_large(listing: &str) -> Vec<String> {
-    of(listing).iter().take(1).map(|kind| large(kind)).collect()
+pub fn of_large(sheet: &[u8], listing: &str) -> Vec<String> {
+    of(sheet, listing).iter().take(1).map(|kind| large(kind)).collect()
 }
 
 #[cfg(test)]
@@ -80,8 +124,12 @@ mod tests {
     use model::listing::listing;
     use std::collections::BTreeSet;
 
-    fn listed(sheet: Draft) -> String {
+    fn listed(sheet: &Draft) -> String {
         listing(&sheet.bytes).expect("a small job")
+    }
+
+    fn kinds(sheet: Draft) -> Vec<String> {
+        of(&sheet.bytes, &listed(&sheet))
     }
 
     #[test]
@@ -93,26 +141,48 @@ mod tests {
             "RULE 1 1, the count above the limit",
             "RULE 2 3, the count above the limit",
         ];
-        assert_eq!(of(&listed(sheet_w())), w);
-        assert_eq!(of(&listed(w_and(4, 3, 3, 7))).last().unwrap(), "RULE 4 3, the count at the limit");
-        assert_eq!(of(&listed(w_and(3, 1, 2, 3))).last().unwrap(), "RULE 3 1, the count below the limit");
-        assert_eq!(of(&listed(one_by_one(1))), ["a plan", "a plan, no RULE line", "SPARE 0 OF 2"]);
-        assert_eq!(of(&listed(plain(1, 2, 64)))[..3], ["a plan", "a plan, 64 RULE lines", "SPARE 0 OF 2"]);
-        assert_eq!(of(&listed(plain(1, 2, 65))), ["refusal  9"]);
-        assert_eq!(of(&listed(w_and(3, 3, 1, 7))), ["refusal 13"]);
+        assert_eq!(kinds(sheet_w()), w);
+        assert_eq!(kinds(w_and(4, 3, 3, 7)).last().unwrap(), "RULE 4 3, the count at the limit");
+        assert_eq!(kinds(w_and(3, 1, 2, 3)).last().unwrap(), "RULE 3 1, the count below the limit");
+        assert_eq!(kinds(one_by_one(1)), ["a plan", "a plan, no RULE line", "SPARE 0 OF 2"]);
+        assert_eq!(kinds(plain(1, 2, 64))[..3], ["a plan", "a plan, 64 RULE lines", "SPARE 0 OF 2"]);
+        assert_eq!(kinds(plain(1, 2, 65)), ["refusal  9"]);
+        assert_eq!(kinds(w_and(3, 3, 1, 7)), ["refusal 13"]);
+    }
+
+    #[test]
+    fn skipped_steps_have_kinds_of_their_own() {
+        let some = [
+            "a plan",
+            "a plan, some steps skipped",
+            "SPARE 1 OF 2",
+            "RULE 1 2, left with one step",
+            "RULE 1 1, the count above the limit",
+            "RULE 2 3, the count above the limit",
+            "RULE 4 3, the count below the limit, left with fewer steps",
+        ];
+        assert_eq!(kinds(w_and(4, 3, 3, 7).skip(5)), some);
+        let all = kinds(w_and(4, 3, 3, 7).skip(5).skip(6).skip(7));
+        assert_eq!(all[..3], ["a plan", "a plan, all steps skipped", "SPARE 2 OF 2"]);
+        assert_eq!(all[3..].last().unwrap(), "RULE 4 3, left with no step");
+        assert_eq!(kinds(one_by_one(1).skip(2))[3], "a plan, all steps skipped, one person");
+        assert_eq!(kinds(w_and(3, 3, 1, 7).skip(5)), ["refusal 13", NO_PLAN_SKIPPED]);
+        assert_eq!(kinds(sheet_w().byte(6, 1, 2)), ["refusal  8", BAD_MARK]);
+        assert_eq!(kinds(sheet_w().byte(6, 15, 2)), ["refusal  8"]);
     }
 
     #[test]
     fn a_large_listing_shows_none_of_the_others() {
-        assert_eq!(of_large(&listed(sheet_w())), ["too large for the brute force, a plan"]);
-        assert_eq!(of_large("REFUSED 13 CARD 0\n"), ["too large for the brute force, refusal 13"]);
+        let w = sheet_w();
+        assert_eq!(of_large(&w.bytes, &listed(&w)), ["too large for the brute force, a plan"]);
+        assert_eq!(of_large(&w.bytes, "REFUSED 13 CARD 0\n"), ["too large for the brute force, refusal 13"]);
     }
 
     #[test]
     fn a_listing_ends_in_a_rule_where_its_job_has_one_and_a_plan() {
-        assert_eq!(of_end(&listed(sheet_w())).as_deref(), Some("a RULE line last"));
-        assert_eq!(of_end(&listed(one_by_one(1))), None);
-        assert_eq!(of_end(&listed(w_and(3, 3, 1, 7))), None);
+        assert_eq!(of_end(&listed(&sheet_w())).as_deref(), Some("a RULE line last"));
+        assert_eq!(of_end(&listed(&one_by_one(1))), None);
+        assert_eq!(of_end(&listed(&w_and(3, 3, 1, 7))), None);
         assert_eq!(of_end(""), None);
     }
 
@@ -127,8 +197,10 @@ mod tests {
     #[test]
     fn what_is_wanted_is_what_listings_show() {
         let wanted = all();
-        for sheet in [sheet_w(), w_and(4, 3, 3, 7), w_and(3, 1, 2, 3), one_by_one(0), one_by_one(1), plain(1, 2, 64)] {
-            let shown = of(&listed(sheet));
+        let skipped = [w_and(4, 3, 3, 7).skip(5), one_by_one(1).skip(2), sheet_w().byte(6, 1, 2)];
+        let sheets = [sheet_w(), w_and(4, 3, 3, 7), w_and(3, 1, 2, 3), one_by_one(0), one_by_one(1), plain(1, 2, 64)];
+        for sheet in sheets.into_iter().chain(skipped) {
+            let shown = kinds(sheet);
             assert!(shown.iter().filter(|kind| *kind != PLAN).all(|kind| wanted.contains(kind)), "{shown:?}");
         }
     }

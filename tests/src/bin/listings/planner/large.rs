@@ -3,7 +3,7 @@
 
 use model::job::Job;
 use model::listing::{text, CAP};
-use model::plans::{is_valid, Plan, Spare};
+use model::plans::{is_valid, plan_by, Plan, Spare};
 use model::reader::read;
 use model::refusal::{Refusal, NO_PLAN};
 
@@ -19,9 +19,10 @@ fn place(job: &Job, tag: &str) -> Option<usize> {
 }
 
 fn printed_plan(job: &Job, printed: &str) -> Option<Plan> {
-    let given = printed.lines().skip(1).take(job.steps.len());
-    let plan: Plan = given.map(|line| place(job, line.split_once(' ')?.1)).collect::<Option<_>>()?;
-    (plan.len() == job.steps.len()).then_some(plan)
+    let steps = job.remaining().count();
+    let given = printed.lines().skip(1).take(steps);
+    let people: Vec<usize> = given.map(|line| place(job, line.split_once(' ')?.1)).collect::<Option<_>>()?;
+    (people.len() == steps).then(|| plan_by(job, people))
 }
 
 fn printed_spare(job: &Job, printed: &str) -> Option<Spare> {
@@ -78,6 +79,19 @@ mod tests {
     fn a_13_is_taken_only_where_no_plan_is_known() {
         assert_eq!(fault(&sheet_w().bytes, false, "REFUSED 13 CARD 0\n"), None);
         assert!(fault(&sheet_w().bytes, true, "REFUSED 13 CARD 0\n").is_some());
+    }
+
+    #[test]
+    fn skipped_steps_are_left_out() {
+        let sheet = sheet_w().skip(5).bytes;
+        let printed = listing(&sheet).expect("W is small");
+        assert_eq!(fault(&sheet, true, &printed), None);
+        assert_eq!(fault(&sheet, true, &printed.replacen("30 102", "30 103", 1)), None);
+        for (part, instead) in
+            [("PLAN 2\n", "PLAN 3\n10 101\n"), ("20 101", "10 101"), ("RULE 1 2 0 1", "RULE 1 2 0 0")]
+        {
+            assert!(fault(&sheet, true, &printed.replacen(part, instead, 1)).is_some(), "{part}");
+        }
     }
 
     #[test]

@@ -10,7 +10,7 @@ use sheet_tests::listings::PLANNER;
 pub const SUBJECT: Subject = Subject {
     stored: PLANNER,
     draw: sheets::any,
-    kinds: |_, listing| kinds::of(listing),
+    kinds: kinds::of,
     large: Some(by_itself),
     lost: kinds::of_end,
     wanted: kinds::all,
@@ -18,5 +18,6 @@ pub const SUBJECT: Subject = Subject {
 
 /// Of a sheet that is too large for the model it matters whether a plan is known to exist.
 fn by_itself(drawn: &Drawn, printed: &str) -> Verdict {
-    large::fault(&drawn.sheet, drawn.planned, printed).map_or_else(|| Ok(kinds::of_large(printed)), Err)
+    let fault = large::fault(&drawn.sheet, drawn.planned, printed);
+    fault.map_or_else(|| Ok(kinds::of_large(&drawn.sheet, printed)), Err)
 }

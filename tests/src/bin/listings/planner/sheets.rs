@@ -3,7 +3,7 @@
 use crate::Drawn;
 use model::garble::sample_of;
 use model::job::{Job, MOST_PEOPLE, MOST_RULES, MOST_STEPS};
-use model::jobs::{laid, planned_job, small_job, with_rules};
+use model::jobs::{laid, planned_skipping_job, small_job, with_rules};
 use model::random::Random;
 
 pub fn any(random: &mut Random) -> Drawn {
@@ -13,10 +13,10 @@ pub fn any(random: &mut Random) -> Drawn {
         22..=24 => (Job { rules: vec![], ..small_job(random) }, false),
         25..=36 => (with_rules(random, 10), true),
         37..=42 => (with_rules(random, MOST_RULES), true),
-        43..=45 => (planned_job(random, MOST_PEOPLE, 2, MOST_RULES), true),
-        46..=48 => (planned_job(random, 2, MOST_STEPS, MOST_RULES), true),
-        // Few of these: the brute force cannot tell their crew, and the program takes long.
-        _ => (planned_job(random, MOST_PEOPLE, MOST_STEPS, MOST_RULES), true),
+        43..=45 => (planned_skipping_job(random, MOST_PEOPLE, 2, MOST_RULES), true),
+        46..=48 => (planned_skipping_job(random, 2, MOST_STEPS, MOST_RULES), true),
+        // Few of these: the brute force cannot tell the crew of most, and the program takes long.
+        _ => (planned_skipping_job(random, MOST_PEOPLE, MOST_STEPS, MOST_RULES), true),
     };
     Drawn { sheet: laid(random, &job).bytes, planned }
 }

@@ -1,0 +1,37 @@
+-- The job of a readable sheet as its cards have it, all steps of the chain counted, skipped or not: that of Ask 5 (workflow/specs/Skipped.antt).
+-- people, steps and rules are the cards along the chains. Assumes nothing.
+use mathlib.Core.List.{List}
+use Prim.Native.Nat.{ℕ, zero, suc}
+use lib.ListN.{length, getD}
+use Rattle.bits.specs.Word.{hasBit}
+use Rattle.card.specs.Fields.{shopOf, benchOf, permittedOf, ruleKindOf, levelOf, limitOf, scopeOf}
+use Rattle.remaining.specs.Remaining.{skippedAt}
+use Rattle.workflow.specs.Numbered.{kindIn}
+use Rattle.workflow.specs.Problem.{May}
+use Rattle.workflow.specs.Skipped.{CardRule, MarkedJob}
+
+-- "Level 1 is the shop, 2 the bench, 3 the person.": of level and person
+abbrev pub classOn : List ℕ → List ℕ → ℕ → ℕ → ℕ
+classOn s people zero p = p
+classOn s people (suc zero) p = shopOf s (getD people p 0)
+classOn s people (suc (suc zero)) p = benchOf s (getD people p 0)
+classOn s people (suc (suc (suc q))) p = p
+
+-- "Rule: byte 1 rule kind 1 to 4; byte 4 level 1 to 3; byte 5 limit; bytes 6-7 scope, bit j for step j"
+abbrev pub ruleOn : List ℕ → ℕ → CardRule
+ruleOn s c = record { kind = kindIn (ruleKindOf s c); level = levelOf s c; limit = limitOf s c; scope = hasBit (scopeOf s c) }
+
+abbrev pub markedIn : List ℕ → List ℕ → List ℕ → List ℕ → MarkedJob
+markedIn s people steps rules =
+    record {
+      steps = length steps;
+      skipped = skippedAt s steps;
+      people = length people;
+      class = classOn s people;
+      rules = length rules;
+      rule = λ i. ruleOn s (getD rules i 0);
+    }
+
+-- "the steps permitted, bit j for step j"
+abbrev pub permittedIn : List ℕ → List ℕ → May
+permittedIn s people t p = hasBit (permittedOf s (getD people p 0)) t

@@ -1,0 +1,8 @@
+pub mod KeptLaws
+pub mod Gather
+pub mod Keeping
+pub mod Gathering
+pub mod Tables
+pub mod Whole
+pub mod Laws
+pub mod Left

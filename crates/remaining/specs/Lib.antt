@@ -1,0 +1,4 @@
+pub mod Kept
+pub mod Remaining
+pub mod Read
+pub mod Arrays
