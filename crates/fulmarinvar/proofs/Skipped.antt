@@ -1,14 +1,17 @@
 -- Which plans are over the remaining steps; what holds with all steps skipped, and with none. Assumes nothing.
-use mathlib.Core.Bool.{true}
+use mathlib.Core.Bool.{Bool, true, _&&_}
 use mathlib.Core.List.{List, [], _++_}
 use mathlib.Core.Logic.{⊎-elim, inl}
-use mathlib.Core.Path.{_≡_, _∙_, ap}
+use mathlib.Core.Path.{_≡_, sym, _∙_, ap}
 use Prim.Native.Nat.{ℕ, zero, suc, _*_, _<_, _≤_}
 use native.Mathlib.Omega.{arith}
+use lib.Dec.{eqb}
 use lib.ListN.{length, drop}
-use borrow.Author.Tests.{not-true}
-use Rattle.bits.proofs.Below.{true-false, and-right}
+use borrow.Author.Tests.{not-true, eqb-true, eqb-false, le-leb, lt-leb}
+use Rattle.bits.proofs.Below.{by-cases, true-false, and-right}
 use Rattle.bits.proofs.Counting.{is-false, count-none}
+use Rattle.card.specs.Fields.{tagOf, skippedOf, nonzero, stepOk}
+use Rattle.card.specs.Layout.{cardLong}
 use Rattle.sheet.specs.Read.{job, readSheet}
 use Rattle.remaining.proofs.Laws.{readable-in, steps-whole, whole-left}
 use Rattle.remaining.specs.Remaining.{skippedAt, keptAt, stepsLeft, jobLeft}
@@ -126,6 +129,14 @@ pub all-skipped : demands.AllSkipped
 all-skipped s people steps rules e all = nothing-to-do s people steps rules e all
 
 -- ---- none skipped
+
+pub tested-as-before : demands.TestedAsBefore
+unfolding stepOk
+tested-as-before s c other =
+    ap (λ (b : Bool). b && nonzero (tagOf s c) && eqb (cardLong s c 8) 0 && eqb (cardLong s c 12) 0)
+    (by-cases (eqb (skippedOf s c) 0)
+    (λ t. let z = eqb-true (skippedOf s c) 0 t in le-leb (skippedOf s c) 1 (omega arith) ∙ sym t)
+    (λ t. let d = eqb-false (skippedOf s c) 0 t in lt-leb (skippedOf s c) 1 (omega arith) ∙ sym t))
 
 pub none-skipped : demands.NoneSkipped
 none-skipped s people steps rules e none =

@@ -1,12 +1,15 @@
 -- Ask 5 of paper 02, steps an instrument doesn't need: "A viola without a crack skips the gluing, and restorers now mark that on the sheet." What the calls
 -- promise is said of valid plans over the remaining steps (Demands.antt, Signing.antt). Here: which these are, what holds with all steps skipped, and with
 -- none. proofs/Skipped.antt proves it. Assumes nothing.
-use mathlib.Core.Bool.{true, false}
+use mathlib.Core.Bool.{Bool, true, false, _&&_}
 use mathlib.Core.List.{List, []}
 use mathlib.Core.Logic.{_↔_}
 use mathlib.Core.Path.{_≡_}
 use Prim.Native.Nat.{ℕ, _*_, _<_, _≤_}
+use lib.Dec.{eqb}
 use lib.ListN.{length}
+use Rattle.card.specs.Fields.{tagOf, skippedOf, nonzero, stepOk}
+use Rattle.card.specs.Layout.{cardByte, cardLong}
 use Rattle.sheet.specs.Answer.{jobOf}
 use Rattle.sheet.specs.Read.{job, readSheet}
 use Rattle.remaining.specs.Remaining.{skippedAt, keptAt, stepsLeft, jobLeft}
@@ -62,6 +65,15 @@ AllSkipped =
 
 -- ---- a sheet without a skipped step means what it meant
 
+-- of what the reader tests, byte 1 of a step card alone is tested otherwise: "Bytes not named below are zero." was said of it in paper 01
+abbrev pub stepOkBefore : List ℕ → ℕ → Bool
+stepOkBefore s c = eqb (cardByte s c 1) 0 && nonzero (tagOf s c) && eqb (cardLong s c 8) 0 && eqb (cardLong s c 12) 0
+
+-- so a card that is not marked as skipped is tested as it was, on any sheet
+abbrev pub TestedAsBefore : Type 0
+TestedAsBefore = (s : List ℕ) (c : ℕ) → (skippedOf s c ≡ 1 → ⊥) → stepOk s c ≡ stepOkBefore s c
+
+-- and a readable sheet without such a card has the job and the plans that it had
 pub record MeansWhatItMeant (s people steps rules : List ℕ) : Type 0 where
   -- all steps remain, with the arrays that the cards give
   pub steps-left : stepsLeft s steps ≡ steps
