@@ -11,7 +11,7 @@ PROVED := $(shell find crates -name '*.rt' -o -name '*.antt') crates.txt
 # need TOOL: says what is missing
 need = command -v $(1) > /dev/null || { echo "$(1) is missing: it has to be on the PATH" >&2; exit 1; }
 
-.PHONY: plan try test check bench record sign trial skipped beside patterns climb soak install uninstall
+.PHONY: plan try test check bench record sign trial skipped levels beside patterns climb soak install uninstall
 
 plan: $(PLANNER)
 	@$(PLANNER) < $(SHEET)
@@ -41,8 +41,8 @@ $(LIB): $(PROVED)
 BENCH = cargo run --release --offline --quiet --manifest-path bench/Cargo.toml --
 
 # Times of crews and spare counts beside a hand-written search, then beside MiniSat, clingo and SAT4J, as far as they are
-# there, of jobs under work, of crews by trial, and of sheets with skipped steps; the tables, and target/measured.csv, peers.csv,
-# sign.csv, trial.csv and skipped.csv.
+# there, of jobs under work, of crews by trial, of sheets with skipped steps, and of sheets with other levels; the tables, and
+# target/measured.csv, peers.csv, sign.csv, trial.csv, skipped.csv and levels.csv.
 bench: $(LIB)
 	@$(call need,cargo)
 	@$(BENCH) measure target/measured.csv
@@ -50,6 +50,7 @@ bench: $(LIB)
 	@$(BENCH) sign target/sign.csv
 	@$(BENCH) trial target/trial.csv
 	@$(BENCH) skipped target/skipped.csv
+	@$(BENCH) levels target/levels.csv
 
 # The same into bench/recorded, and what docs/BENCHMARKS.md shows of it.
 record: $(LIB)
@@ -61,6 +62,7 @@ record: $(LIB)
 	@$(BENCH) sign bench/recorded/sign.csv
 	@$(BENCH) trial bench/recorded/trial.csv
 	@$(BENCH) skipped bench/recorded/skipped.csv
+	@$(BENCH) levels bench/recorded/levels.csv
 	@python3 bench/plot --into docs/BENCHMARKS.md
 
 # Jobs under work alone: openings beside the crew call, signings beside the question whether a plan exists. The times go to
@@ -79,6 +81,12 @@ trial: $(LIB)
 skipped: $(LIB)
 	@$(call need,cargo)
 	@$(BENCH) skipped $(or $(OUT),target/skipped.csv)
+
+# Crews and spare counts of practice sheets with one, two and three class levels, beside a hand-written search. The times go to
+# OUT.
+levels: $(LIB)
+	@$(call need,cargo)
+	@$(BENCH) levels $(or $(OUT),target/levels.csv)
 
 # Crews and spare counts of the library beside those of another archive of it, OTHER, on practice and hard sheets: the
 # answers have to be the same. The times go to OUT.

@@ -1,4 +1,5 @@
-/* Makes sheets card by card, and sheet W, on which the examples work; reads what a host wants of its own sheet. */
+/* Makes sheets card by card, sheet W and one of version 2, on which the examples work; reads what a host wants of its
+ * own sheet. */
 #ifndef SHEET_H
 #define SHEET_H
 
@@ -8,7 +9,8 @@
 
 enum { HEADER = 1, PERSON = 2, STEP = 3, RULE = 4 };
 enum { SAME = 1, DIFFERENT = 2 };
-enum { BY_SHOP = 1, BY_BENCH = 2, BY_PERSON = 3 };
+enum { BY_SHOP = 1, BY_BENCH = 2, BY_PERSON = 3 }; /* the levels of version 1 */
+enum { BY_PAIR = 3, BY_ONE = 4 };                  /* those after the bench where there are pairs */
 
 /* A sheet in the making. Cards lie one after the other; each kind has a chain of its own. */
 struct sheet {
@@ -39,12 +41,31 @@ static inline uint8_t *card(struct sheet *sheet, uint16_t index) {
     return sheet->bytes + FULMARINVAR_CARD_BYTES * index;
 }
 
+/* A sheet of version 1, with shops and benches. */
 static inline void begin(struct sheet *sheet) {
     memset(sheet, 0, sizeof *sheet);
     sheet->cards = 1;
     card(sheet, 0)[0] = HEADER;
     card(sheet, 0)[1] = 1;
     put16(card(sheet, 0) + 10, 1);
+}
+
+/* A sheet of version 2, with one to three class levels. */
+static inline void begin_levels(struct sheet *sheet, uint8_t class_levels) {
+    begin(sheet);
+    card(sheet, 0)[1] = 2;
+    card(sheet, 0)[12] = class_levels;
+}
+
+/* How many class levels a sheet has above the person. */
+static inline uint8_t class_levels(const struct sheet *sheet) {
+    return sheet->bytes[1] == 1 ? BY_BENCH : sheet->bytes[12];
+}
+
+/* Where the class of a person card at a class level stands. */
+static inline uint8_t class_place(uint8_t level) {
+    static const uint8_t places[FULMARINVAR_MOST_CLASS_LEVELS] = {8, 10, 14};
+    return places[level - 1];
 }
 
 /* A new card at the end of its chain: the header names the first, and each card the one after it. */
@@ -58,13 +79,18 @@ static inline uint8_t *add(struct sheet *sheet, uint8_t kind) {
     return card(sheet, index);
 }
 
-/* Bit j of `may` is set where step j is permitted. */
-static inline void person(struct sheet *sheet, uint32_t tag, uint16_t shop, uint16_t bench, uint16_t may) {
+/* The classes are those of the sheet's levels, topmost first. Bit j of `may` is set where step j is permitted. */
+static inline void person_in(struct sheet *sheet, uint32_t tag, const uint16_t *classes, uint16_t may) {
     uint8_t *at = add(sheet, PERSON);
     put32(at + 4, tag);
-    put16(at + 8, shop);
-    put16(at + 10, bench);
+    for (uint8_t level = 1; level <= class_levels(sheet); level++) {
+        put16(at + class_place(level), classes[level - 1]);
+    }
     put16(at + 12, may);
+}
+
+static inline void person(struct sheet *sheet, uint32_t tag, uint16_t shop, uint16_t bench, uint16_t may) {
+    person_in(sheet, tag, (const uint16_t[]){shop, bench}, may);
 }
 
 static inline void step(struct sheet *sheet, uint32_t tag) {
@@ -103,14 +129,7 @@ static inline uint32_t class_of(const struct sheet *sheet, uint32_t tag, uint8_t
     while (get32(at + 4) != tag) {
         at = next_card(sheet, at);
     }
-    switch (level) {
-    case BY_SHOP:
-        return get16(at + 8);
-    case BY_BENCH:
-        return get16(at + 10);
-    default:
-        return tag;
-    }
+    return level > class_levels(sheet) ? tag : get16(at + class_place(level));
 }
 
 /* Sheet W of the paper: 10 and 20 at the same bench, 20 and 30 in the same shop and by different people. */
@@ -127,6 +146,23 @@ static inline void sheet_w(struct sheet *sheet) {
     rule(sheet, SAME, BY_BENCH, 0, first | second);
     rule(sheet, SAME, BY_SHOP, 0, second | third);
     rule(sheet, DIFFERENT, BY_PERSON, 0, second | third);
+}
+
+/* W with a pair for each person, and 10 and 20 by different pairs: at one bench, by 101 and 102. */
+static inline void sheet_of_pairs(struct sheet *sheet) {
+    const uint16_t first = 1, second = 2, third = 4;
+    begin_levels(sheet, BY_PAIR);
+    person_in(sheet, 101, (const uint16_t[]){1, 1, 1}, first | second | third);
+    person_in(sheet, 102, (const uint16_t[]){1, 1, 2}, first | second | third);
+    person_in(sheet, 103, (const uint16_t[]){1, 2, 3}, third);
+    person_in(sheet, 104, (const uint16_t[]){2, 3, 4}, third);
+    step(sheet, 10);
+    step(sheet, 20);
+    step(sheet, 30);
+    rule(sheet, SAME, BY_BENCH, 0, first | second);
+    rule(sheet, SAME, BY_SHOP, 0, second | third);
+    rule(sheet, DIFFERENT, BY_ONE, 0, second | third);
+    rule(sheet, DIFFERENT, BY_PAIR, 0, first | second);
 }
 
 #endif

@@ -16,7 +16,18 @@ extern "C" {
 
 /* A sheet is a row of cards; card i starts at byte 16 * i. Byte 1 of a step card is 0, or 1 where the step is skipped:
  * it is one of the steps of the sheet, and permissions and scopes may name it, but nobody does it and no rule counts
- * it. The other steps are those that remain. */
+ * it. The other steps are those that remain.
+ *
+ * People are in classes, by levels: each class lies in one class of the level above. Byte 1 of the header is the
+ * version.
+ *   version 1   header byte 12 is zero; two class levels, 1 the shop and 2 the bench
+ *   version 2   header byte 12 is the number of class levels, 1 to 3
+ * Bytes 13 to 15 of the header are zero in both. A person card has its classes in bytes 8-9 (level 1), 10-11 (level 2)
+ * and 14-15 (level 3), low byte first: not zero at the levels that the sheet has, zero at the others. The person is
+ * the level after the last class level, and the highest that a rule may name: level 3 in version 1, 2 to 4 in
+ * version 2. Everything else is alike: a version 2 sheet with two class levels means what a version 1 sheet with the
+ * same cards does. */
+#define FULMARINVAR_MOST_CLASS_LEVELS 3
 #define FULMARINVAR_CARD_BYTES 16
 #define FULMARINVAR_MOST_CARDS 141
 #define FULMARINVAR_MOST_SHEET_BYTES 2256
@@ -48,18 +59,22 @@ enum fulmarinvar_refusal {
 
     /* Caused by whoever wrote the sheet. */
     FULMARINVAR_BAD_LENGTH = 3,          /* length zero, no multiple of 16, or above 2,256; card 0 */
-    FULMARINVAR_BAD_HEADER = 4,          /* header not as laid down, or its card number not length / 16; card 0 */
-    FULMARINVAR_BAD_INDEX = 5,           /* an index not below the number of cards; the card that holds it */
-    FULMARINVAR_CARD_AGAIN = 6,          /* a chain comes to a card already reached; that card */
-    FULMARINVAR_WRONG_KIND = 7,          /* a card of another kind than its chain; that card */
-    FULMARINVAR_BAD_FIELD = 8,           /* a field outside its values, or an unnamed byte of a person, step or rule
-                                            card that is not zero; that card */
-    FULMARINVAR_NONE_OR_TOO_MANY = 9,    /* no people or no steps: card 0; more than 64 people, 12 steps or 64 rules:
-                                            the first card too many */
-    FULMARINVAR_TAG_TWICE = 10,          /* a tag on two people or on two steps; the first card along the
-                                            chain whose tag stood earlier on it */
-    FULMARINVAR_BENCH_IN_TWO_SHOPS = 11, /* the first person whose bench stood earlier with another shop; that card */
-    FULMARINVAR_LOOSE_CARD = 12,         /* a card on no chain; the lowest */
+    FULMARINVAR_BAD_HEADER = 4,            /* header not as laid down, its version or number of class levels among it,
+                                              or its card number not length / 16; card 0 */
+    FULMARINVAR_BAD_INDEX = 5,             /* an index not below the number of cards; the card that holds it */
+    FULMARINVAR_CARD_AGAIN = 6,            /* a chain comes to a card already reached; that card */
+    FULMARINVAR_WRONG_KIND = 7,            /* a card of another kind than its chain; that card */
+    FULMARINVAR_BAD_FIELD = 8,             /* a field outside its values, a class that is zero at a level of the sheet
+                                              or not zero at another, or an unnamed byte of a person, step or rule card
+                                              that is not zero; that card */
+    FULMARINVAR_NONE_OR_TOO_MANY = 9,      /* no people or no steps: card 0; more than 64 people, 12 steps or 64 rules:
+                                              the first card too many */
+    FULMARINVAR_TAG_TWICE = 10,            /* a tag on two people or on two steps; the first card along the
+                                              chain whose tag stood earlier on it */
+    FULMARINVAR_CLASS_IN_TWO_CLASSES = 11, /* the first person of whom a class, at any level, stood earlier in another
+                                              class of the level above; that card */
+    FULMARINVAR_BENCH_IN_TWO_SHOPS = 11,   /* the same, by its name in version 1 */
+    FULMARINVAR_LOOSE_CARD = 12,           /* a card on no chain; the lowest */
 
     /* Caused by the job itself. */
     FULMARINVAR_NO_PLAN = 13, /* no valid plan with everyone present; card 0 */

@@ -68,11 +68,13 @@ def measured_table(title, named):
     return table(heading, [measured(rows, name) for name, rows in named if rows])
 
 
-def by_rules(record):
-    """The practice sheets of full size for each number of rules, with its name; then all of them."""
+def by_rules(record, rows=None):
+    """The practice sheets of full size for each number of rules, with its name; then all of them. Of these rows, or of all."""
+    rows = record.rows if rows is None else rows
     groups = [group for group in record.groups() if practice_rules(group) is not None]
-    every = [row for row in record.rows if practice_rules(row["group"]) is not None]
-    return [(str(practice_rules(group)), record.of(group=group)) for group in groups] + [("all of these", every)]
+    every = [row for row in rows if practice_rules(row["group"]) is not None]
+    each = [(str(practice_rules(group)), [row for row in rows if row["group"] == group]) for group in groups]
+    return [*each, ("all of these", every)]
 
 
 def any_size(record):
@@ -216,6 +218,11 @@ def ended(ours, theirs):
     return [(one, other) for one, other in zip(ours, theirs) if not math.isinf(one + other)]
 
 
+def told(pairs):
+    """The pairs of which the clock has told both times: now and then it shows none."""
+    return [(one, other) for one, other in pairs if one > 0 and other > 0]
+
+
 def beyond(rows, call):
     """What is left of the calls beyond their reading; late where one of the two was."""
     whole, reading = column(rows, f"{call}_ns"), column(rows, f"{call}_reading_ns")
@@ -254,6 +261,31 @@ def skipped(record):
             line += left(ended(beyond(rows, call), beyond(rows, f"short_{call}")))
         lines.append(line)
     return table(heading, lines)
+
+
+LEVELS = {"1": "shops", "2": "shops, benches", "3": "shops, benches, pairs"}
+
+
+def levels(record):
+    """Both calls on practice sheets with each number of class levels, beside the hand-written search on the same sheets."""
+    heading = ["class levels", "rules", "sheets", "with a plan"]
+    for call in ("crew", "spare (cap 3)"):
+        heading += [f"{call}: median", "worst", "by hand: median", "worst", "ratio: median", "p90", "worst"]
+    lines = []
+    for number, word in LEVELS.items():
+        *numbered, every = by_rules(record, record.of(class_levels=number))
+        for name, rows in [*numbered, every, *by_plan(*every)]:
+            if not rows:
+                continue
+            line = [word, name, str(len(rows)), str(len(with_plan(rows)))]
+            for ours, theirs in (("crew_ns", "first_ns"), ("spare_ns", "hand_spare_ns")):
+                one, other = column(rows, ours), column(rows, theirs)
+                line += [time(value) for value in (median(one), max(one), median(other), max(other))]
+                line += ratios(told(ended(one, other)))
+            lines.append(line)
+    late = sum(math.isinf(micros(row, name)) for row in record.rows for name in ("crew_ns", "spare_ns"))
+    untold = sum(micros(row, name) == 0 for row in record.rows for name in ("crew_ns", "first_ns", "spare_ns", "hand_spare_ns"))
+    return table(heading, lines) + f"\nLate calls of the library: {late}. Times that the clock did not show: {untold}; such a pair has no ratio.\n"
 
 
 def trial(record):

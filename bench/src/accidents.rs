@@ -2,7 +2,7 @@
 
 use model::builder::{person, rule, step};
 use model::job::{
-    Job, Rule, AT_LEAST, AT_MOST, BY_BENCH, BY_PERSON, BY_SHOP, DIFFERENT, MOST_PEOPLE, MOST_STEPS, SAME,
+    Form, Job, Rule, AT_LEAST, AT_MOST, BY_BENCH, BY_PERSON, BY_SHOP, DIFFERENT, MOST_PEOPLE, MOST_STEPS, SAME,
 };
 use model::jobs::any_level;
 use model::random::Random;
@@ -16,6 +16,7 @@ fn open_job(shops: usize, benches: usize, rules: Vec<Rule>) -> Job {
         people: (0..MOST_PEOPLE).map(|i| person(100 + i as u32, at(i).0, at(i).1, EVERY_STEP)).collect(),
         steps: (0..MOST_STEPS).map(|j| step(1 + j as u32)).collect(),
         rules,
+        ..Job::default()
     }
 }
 
@@ -41,7 +42,7 @@ fn easy(random: &mut Random, most: usize, count: usize) -> Vec<Rule> {
 
 /// Same at a level and different at that level or a coarser one, on the last two steps.
 pub fn contradiction(random: &mut Random) -> Job {
-    let fine = any_level(random);
+    let fine = any_level(random, Form::First);
     let coarse = random.within(BY_SHOP.into(), fine.into()) as u8;
     let count = random.within(3, 20);
     let mut rules = easy(random, MOST_STEPS - 2, count);

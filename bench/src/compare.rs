@@ -1,9 +1,10 @@
 //! The library beside the hand-written search, over all groups.
 
-use crate::measure::{measure, Limits};
+use crate::groups::{self, Group};
+use crate::measure::{measure, Limits, Measured};
 use crate::options::{self, option, Run};
 use crate::worker::Worker;
-use crate::{groups, record, table};
+use crate::{record, table};
 use std::io::{self, Write};
 use std::time::Duration;
 
@@ -18,7 +19,7 @@ for the first plan and for any plan, and 'hand' is its spare count, the job alre
 time.";
 
 pub struct Order {
-    run: Run,
+    pub run: Run,
     /// The longest that a hand-written search may take.
     hand: Duration,
 }
@@ -28,30 +29,46 @@ pub fn order(mut args: Vec<String>) -> Option<Order> {
     Some(Order { run: options::run(args, 60)?, hand })
 }
 
+/// The sheets of a group, each with a line of the file that begins as told.
+pub fn measured(
+    worker: &mut Worker,
+    order: &Order,
+    group: &Group,
+    csv: &mut impl Write,
+    begin: &str,
+) -> io::Result<Vec<Measured>> {
+    let limits = Limits { library: order.run.late, hand: order.hand };
+    let mut all = vec![];
+    for sheet in 1..=order.run.sheets.min(group.sheets) {
+        let one = measure(worker, &(group.job)(sheet), limits)?;
+        writeln!(csv, "{begin}{}", table::csv_line(&group.name, sheet, &one))?;
+        if !one.differences.is_empty() {
+            println!("DIFFERENT {begin}{} {sheet}: {}", group.name, one.differences.join(" and "));
+        }
+        all.push(one);
+    }
+    Ok(all)
+}
+
+/// How many sheets got different answers.
+pub fn differing(all: &[Measured]) -> usize {
+    all.iter().filter(|one| !one.differences.is_empty()).count()
+}
+
 /// How many sheets got different answers.
 pub fn run(order: &Order) -> io::Result<usize> {
-    let Order { run, hand } = order;
-    let limits = Limits { library: run.late, hand: *hand };
-    let mut csv = record::create(&run.csv, &[])?;
+    let mut csv = record::create(&order.run.csv, &[])?;
     writeln!(csv, "{}", table::CSV_HEADING)?;
     println!("{}", table::heading());
     let mut worker = Worker::new();
-    let mut differing = 0;
-    for group in groups::meant(&run.groups) {
-        let mut all = vec![];
-        for sheet in 1..=run.sheets.min(group.sheets) {
-            let one = measure(&mut worker, &(group.job)(sheet), limits)?;
-            writeln!(csv, "{}", table::csv_line(&group.name, sheet, &one))?;
-            if !one.differences.is_empty() {
-                println!("DIFFERENT {} {sheet}: {}", group.name, one.differences.join(" and "));
-                differing += 1;
-            }
-            all.push(one);
-        }
+    let mut different = 0;
+    for group in groups::meant(&order.run.groups) {
+        let all = measured(&mut worker, order, &group, &mut csv, "")?;
         if !all.is_empty() {
             println!("{}", table::lines(&group.name, &all));
         }
+        different += differing(&all);
     }
     csv.flush()?;
-    Ok(differing)
+    Ok(different)
 }

@@ -1,9 +1,9 @@
 //! The groups of sheets that are measured.
 
 use crate::{accidents, hard, randoms};
-use model::job::{Job, MOST_PEOPLE, MOST_STEPS};
+use model::job::{Form, Job, MOST_PEOPLE, MOST_STEPS};
 use model::random::Random;
-use model::recipe::practice_job;
+use model::recipe::practice_job_in;
 
 /// The rules of practice sheets of full size, a group for each.
 const PRACTICE_RULES: [usize; 12] = [0, 2, 4, 6, 8, 10, 12, 14, 20, 32, 48, 64];
@@ -44,8 +44,9 @@ impl Group {
     }
 }
 
-fn practice_group(rules: usize) -> Group {
-    Group::made(&format!("{PRACTICE}-{rules}"), move |start| practice_job(start, MOST_STEPS, MOST_PEOPLE, rules))
+fn practice_group(form: Form, rules: usize) -> Group {
+    let job = move |start| practice_job_in(form, start, MOST_STEPS, MOST_PEOPLE, rules);
+    Group::made(&format!("{PRACTICE}-{rules}"), job)
 }
 
 fn random_group(name: &str, job: fn(&mut Random) -> Job) -> Group {
@@ -61,7 +62,12 @@ fn hard_group() -> Group {
 
 /// The practice sheets of full size.
 pub fn full_practice() -> Vec<Group> {
-    PRACTICE_RULES.into_iter().map(practice_group).collect()
+    full_practice_in(Form::First)
+}
+
+/// The same people and steps in another form.
+pub fn full_practice_in(form: Form) -> Vec<Group> {
+    PRACTICE_RULES.into_iter().map(|rules| practice_group(form, rules)).collect()
 }
 
 pub fn all() -> Vec<Group> {
@@ -87,8 +93,13 @@ pub fn all() -> Vec<Group> {
 
 /// The groups that are meant; all of them where none is named.
 pub fn meant(names: &[String]) -> Vec<Group> {
+    meant_of(all(), names)
+}
+
+/// Those of these groups that are meant.
+pub fn meant_of(groups: Vec<Group>, names: &[String]) -> Vec<Group> {
     let is_meant = |group: &Group| names.is_empty() || names.iter().any(|name| group.is_meant_by(name));
-    all().into_iter().filter(is_meant).collect()
+    groups.into_iter().filter(is_meant).collect()
 }
 
 #[cfg(test)]

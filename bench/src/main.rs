@@ -11,6 +11,7 @@ mod clock;
 mod compare;
 mod groups;
 mod hard;
+mod levels;
 mod measure;
 mod narrow;
 mod options;
@@ -53,6 +54,7 @@ fn run(mut args: Vec<String>) -> io::Result<End> {
         "measure" => compare::order(args).map_or(Ok(End::Misused), |order| compare::run(&order).map(differences)),
         "beside" => beside::order(args).map_or(Ok(End::Misused), |order| beside::run(&order).map(differences)),
         "climb" => climb::order(args).map_or(Ok(End::Misused), |order| climb::run(&order).map(|()| End::Done)),
+        "levels" => levels::order(args).map_or(Ok(End::Misused), |order| levels::run(&order).map(differences)),
         "peers" => peers::order(args).map_or(Ok(End::Misused), |order| peers::run(&order).map(differences)),
         "sign" => sign::order(args).map_or(Ok(End::Misused), |order| sign::run(&order).map(differences)),
         "skipped" => skipped::order(args).map_or(Ok(End::Misused), |order| skipped::run(&order).map(differences)),
@@ -70,8 +72,16 @@ fn main() -> ExitCode {
             ExitCode::FAILURE
         }
         Ok(End::Misused) => {
-            let usages =
-                [compare::USAGE, peers::USAGE, beside::USAGE, sign::USAGE, skipped::USAGE, trial::USAGE, climb::USAGE];
+            let usages = [
+                compare::USAGE,
+                levels::USAGE,
+                peers::USAGE,
+                beside::USAGE,
+                sign::USAGE,
+                skipped::USAGE,
+                trial::USAGE,
+                climb::USAGE,
+            ];
             eprintln!("usage: {}", usages.join("\n\n"));
             ExitCode::from(2)
         }

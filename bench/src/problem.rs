@@ -1,9 +1,10 @@
 //! The job as the hand-written search holds it: people as bits of a word, and rules as pairs or as counts. Its steps are those
 //! that remain.
 
-use model::job::{Job, Person, Rule, AT_MOST, BY_BENCH, BY_PERSON, BY_SHOP, DIFFERENT, MOST_PEOPLE, MOST_STEPS, SAME};
+use model::job::{Job, Rule, AT_MOST, DIFFERENT, MOST_CLASS_LEVELS, MOST_PEOPLE, MOST_STEPS, SAME};
 
-const LEVELS: usize = BY_PERSON as usize;
+/// The class levels and the person.
+const MOST_LEVELS: usize = MOST_CLASS_LEVELS + 1;
 
 /// The people who may still do each step.
 pub type Domains = [u64; MOST_STEPS];
@@ -27,8 +28,8 @@ pub struct Problem {
     pub steps: usize,
     pub people: usize,
     pub may: Domains,
-    /// For each level and person everybody of that person's class.
-    pub class: [[u64; MOST_PEOPLE]; LEVELS],
+    /// For each level of the sheet and each person everybody of that person's class.
+    pub class: [[u64; MOST_PEOPLE]; MOST_LEVELS],
     pub pairs: Vec<Pair>,
     pub counts: Vec<Count>,
 }
@@ -49,19 +50,20 @@ fn bounds(rule: &Rule, size: usize) -> (usize, usize) {
     }
 }
 
-/// For each person everybody with the same number.
-fn classes(job: &Job, number: fn(&Person) -> u16) -> [u64; MOST_PEOPLE] {
+/// For each person everybody of the same class at a class level.
+fn classes(job: &Job, level: u8) -> [u64; MOST_PEOPLE] {
     let mut met: Vec<(u16, u64)> = Vec::with_capacity(MOST_PEOPLE);
-    let mut place = [0; MOST_PEOPLE];
+    let mut at = [0; MOST_PEOPLE];
     for (p, person) in job.people.iter().enumerate() {
-        let known = met.iter().position(|(met, _)| *met == number(person));
-        place[p] = known.unwrap_or(met.len());
+        let number = person.class[place(level)];
+        let known = met.iter().position(|(met, _)| *met == number);
+        at[p] = known.unwrap_or(met.len());
         match known {
             Some(at) => met[at].1 |= 1 << p,
-            None => met.push((number(person), 1 << p)),
+            None => met.push((number, 1 << p)),
         }
     }
-    std::array::from_fn(|p| met[place[p]].1)
+    std::array::from_fn(|p| met[at[p]].1)
 }
 
 impl Problem {
@@ -71,7 +73,7 @@ impl Problem {
             steps: remaining.len(),
             people: job.people.len(),
             may: [0; MOST_STEPS],
-            class: [[0; MOST_PEOPLE]; LEVELS],
+            class: [[0; MOST_PEOPLE]; MOST_LEVELS],
             pairs: vec![],
             counts: vec![],
         };
@@ -79,10 +81,11 @@ impl Problem {
             for (may, step) in problem.may.iter_mut().zip(&remaining) {
                 *may |= u64::from(person.permitted >> step & 1) << p;
             }
-            problem.class[place(BY_PERSON)][p] = 1 << p;
+            problem.class[place(job.form.person_level())][p] = 1 << p;
         }
-        problem.class[place(BY_SHOP)] = classes(job, |person| person.shop);
-        problem.class[place(BY_BENCH)] = classes(job, |person| person.bench);
+        for level in 1..=job.form.class_levels() {
+            problem.class[place(level)] = classes(job, level);
+        }
         for rule in &job.rules {
             let scope = (0..remaining.len()).filter(|&step| rule.scope >> remaining[step] & 1 == 1);
             problem.add(rule, scope.collect());

@@ -1,7 +1,7 @@
 //! Random jobs: practice sheets of any size, and rules of all four kinds over people permitted much or little.
 
 use model::builder::{person, step};
-use model::job::{Job, MOST_PEOPLE, MOST_RULES, MOST_STEPS};
+use model::job::{Form, Job, MOST_PEOPLE, MOST_RULES, MOST_STEPS};
 use model::jobs::{job_of, random_rule};
 use model::random::Random;
 use model::recipe::practice_job;
@@ -24,14 +24,14 @@ pub fn practice_of_any_size(number: u32) -> Job {
 /// Rules of all four kinds for the people of a practice sheet.
 pub fn practice_people(random: &mut Random, least: usize, most: usize) -> Job {
     let mut job = practice_job(random.below(1 << 31) as u32, MOST_STEPS, MOST_PEOPLE, 0);
-    job.rules = (0..random.within(least, most)).map(|_| random_rule(random, MOST_STEPS)).collect();
+    job.rules = (0..random.within(least, most)).map(|_| random_rule(random, Form::First, MOST_STEPS)).collect();
     job
 }
 
 /// Any people with any permissions, and rules of all four kinds.
 pub fn any_job(random: &mut Random) -> Job {
     let rules = random.within(0, MOST_RULES);
-    job_of(random, MOST_PEOPLE, MOST_STEPS, rules)
+    job_of(random, Form::First, MOST_PEOPLE, MOST_STEPS, rules)
 }
 
 /// Each permission is given `ease` times in sixteen; 4 to 24 benches in 2 to 6 shops.
@@ -47,7 +47,8 @@ fn permitted_job(random: &mut Random, ease: usize, rules: usize) -> Job {
     Job {
         people,
         steps: (0..MOST_STEPS).map(|j| step(1 + j as u32)).collect(),
-        rules: (0..rules).map(|_| random_rule(random, MOST_STEPS)).collect(),
+        rules: (0..rules).map(|_| random_rule(random, Form::First, MOST_STEPS)).collect(),
+        ..Job::default()
     }
 }
 

@@ -1,7 +1,8 @@
 //! Random sheets: good ones, good ones that are damaged, and garbage.
 
 use crate::builder::Draft;
-use crate::card::{CARD, HEADER, MOST_CARDS, STEP};
+use crate::card::{CARD, CLASSES, CLASS_LEVELS, HEADER, MOST_CARDS, PERSON, STEP};
+use crate::classes::any_form;
 use crate::job::{Job, MOST_PEOPLE, MOST_RULES, MOST_STEPS};
 use crate::jobs::{good_job, job_of, laid, with_skipped};
 use crate::random::Random;
@@ -81,7 +82,7 @@ fn damage(random: &mut Random, draft: Draft) -> Draft {
     if draft.cards() == 0 {
         return draft;
     }
-    match random.below(17) {
+    match random.below(21) {
         0..=4 => changed_byte(random, draft),
         5..=6 => redirected(random, draft),
         7 => swapped_links(random, draft),
@@ -91,6 +92,8 @@ fn damage(random: &mut Random, draft: Draft) -> Draft {
         13 => grown(random, draft),
         14 => swapped_cards(random, draft),
         15 => marked_step(random, draft),
+        16..=17 => other_header(random, draft),
+        18..=19 => other_class(random, draft),
         _ => small_field(random, draft),
     }
 }
@@ -135,14 +138,14 @@ fn two_alike(random: &mut Random, draft: &Draft) -> (usize, usize) {
     (one, alike[random.below(alike.len())])
 }
 
-/// A word of a card as another card of its kind has it: equal tags, shops, benches.
+/// A word of a card as another card of its kind has it: equal tags, equal classes.
 fn copied_field(random: &mut Random, draft: Draft) -> Draft {
     let (from, to) = two_alike(random, &draft);
     if random.once_in(2) {
         let (low, high) = (word_at(&draft, from, 4), word_at(&draft, from, 6));
         return draft.word(to, 4, low).word(to, 6, high);
     }
-    let at = 8 + 2 * random.below(2);
+    let at = CLASSES[random.below(CLASSES.len())];
     let value = word_at(&draft, from, at);
     draft.word(to, at, value)
 }
@@ -190,19 +193,50 @@ fn swapped_cards(random: &mut Random, mut draft: Draft) -> Draft {
 /// A byte that a rule or a permitted set may have, in its place.
 fn small_field(random: &mut Random, draft: Draft) -> Draft {
     let card = any_card(random, &draft);
-    let at = [1, 4, 5, 6, 7, 8, 10, 12, 13][random.below(9)];
+    let at = [1, 4, 5, 6, 7, 8, 10, 12, 13, 14][random.below(10)];
     let value = random.below(16) as u8;
     draft.byte(card, at, value)
 }
 
+/// A card of the kind, where there is one.
+fn any_of_kind(random: &mut Random, draft: &Draft, kind: u8) -> Option<usize> {
+    let cards: Vec<usize> = (0..draft.cards()).filter(|card| draft.bytes[card * CARD] == kind).collect();
+    (!cards.is_empty()).then(|| cards[random.below(cards.len())])
+}
+
 /// A step that is skipped or is not, or has neither mark.
 fn marked_step(random: &mut Random, draft: Draft) -> Draft {
-    let steps: Vec<usize> = (0..draft.cards()).filter(|card| draft.bytes[card * CARD] == STEP).collect();
-    if steps.is_empty() {
+    let Some(card) = any_of_kind(random, &draft, STEP) else {
         return draft;
-    }
-    let (card, mark) = (steps[random.below(steps.len())], [0, 1, 1, 2, 3, 255][random.below(6)]);
+    };
+    let mark = [0, 1, 1, 2, 3, 255][random.below(6)];
     draft.byte(card, 1, mark)
+}
+
+/// Another version, another number of class levels, both, or something after them.
+fn other_header(random: &mut Random, draft: Draft) -> Draft {
+    let (version, levels) = ([0, 1, 1, 2, 2, 3, 255][random.below(7)], [0, 1, 2, 3, 4, 255][random.below(6)]);
+    match random.below(4) {
+        0 => draft.byte(0, 1, version),
+        1 => draft.byte(0, CLASS_LEVELS, levels),
+        2 => draft.byte(0, 1, version).byte(0, CLASS_LEVELS, levels),
+        _ => draft.byte(0, random.within(CLASS_LEVELS + 1, CARD - 1), random.byte()),
+    }
+}
+
+/// Somebody's class at a level that the sheet has or has not: zero, a small number, or one with a high byte.
+fn other_class(random: &mut Random, draft: Draft) -> Draft {
+    let Some(card) = any_of_kind(random, &draft, PERSON) else {
+        return draft;
+    };
+    let at = CLASSES[random.below(CLASSES.len())];
+    let old = word_at(&draft, card, at);
+    let class = match random.below(4) {
+        0 => 0,
+        1 => old ^ 1 << random.within(8, 15),
+        _ => random.within(1, 7) as u16,
+    };
+    draft.word(card, at, class)
 }
 
 /// One of the three chains too long, in a sheet that is short elsewhere.
@@ -213,7 +247,8 @@ fn crowded(random: &mut Random) -> Draft {
         1 => (random.within(1, 6), MOST_STEPS + over, random.below(6)),
         _ => (random.within(1, 6), random.within(2, 6), MOST_RULES + over),
     };
-    let job = job_of(random, people, steps, rules);
+    let form = any_form(random);
+    let job = job_of(random, form, people, steps, rules);
     let job = with_skipped(random, job);
     let draft = laid(random, &job);
     if random.once_in(2) {
@@ -241,15 +276,16 @@ fn headed(random: &mut Random) -> Draft {
     let bytes = (0..cards * CARD).map(|_| random.below(5) as u8).collect();
     let index = |random: &mut Random| random.below(cards + 1) as u16;
     let (people, steps, rules) = (index(random), index(random), index(random));
+    let form = any_form(random);
     Draft::of(bytes)
         .byte(0, 0, HEADER)
-        .byte(0, 1, 1)
         .next(0, 0)
         .first_person(people)
         .first_step(steps)
         .first_rule(rules)
         .number(cards as u16)
-        .long(0, 12, 0)
+        .long(0, CLASS_LEVELS, 0)
+        .form(form)
 }
 
 fn noise(random: &mut Random) -> Draft {
@@ -265,9 +301,10 @@ fn noise(random: &mut Random) -> Draft {
 #[cfg(test)]
 mod tests {
     use super::*;
-    use crate::reader::read;
-    use crate::refusal::{BAD_LENGTH, LOOSE_CARD};
-    use std::collections::HashSet;
+    use crate::job::Form;
+    use crate::reader::{read, stated_form};
+    use crate::refusal::{BAD_LENGTH, CLASS_IN_TWO_CLASSES, LOOSE_CARD};
+    use std::collections::BTreeSet;
 
     #[test]
     fn good_sheets_are_read_as_they_were_made() {
@@ -279,10 +316,15 @@ mod tests {
     }
 
     #[test]
-    fn every_refusal_comes_up() {
+    fn every_refusal_comes_up_in_every_form() {
         let mut random = Random::new(12);
-        let answers = (0..20_000).map(|_| read(&sample(&mut random).sheet));
-        let numbers: HashSet<u32> = answers.filter_map(|a| a.err()).map(|r| r.number).collect();
-        assert_eq!(numbers, (BAD_LENGTH..=LOOSE_CARD).collect());
+        let sheets: Vec<Vec<u8>> = (0..40_000).map(|_| sample(&mut random).sheet).collect();
+        for form in Form::ALL {
+            let answers = sheets.iter().filter(|sheet| stated_form(sheet) == Some(form)).map(|sheet| read(sheet));
+            let numbers: BTreeSet<u32> = answers.filter_map(|answer| answer.err()).map(|r| r.number).collect();
+            // With one level no class lies in another.
+            let given = |number: &u32| *number != CLASS_IN_TWO_CLASSES || form.class_levels() > 1;
+            assert_eq!(numbers, (BAD_LENGTH..=LOOSE_CARD).filter(given).collect(), "{form}");
+        }
     }
 }

@@ -1,12 +1,11 @@
 //! Random jobs that keep every bound of the paper, and their sheets.
 
-use crate::builder::{lay, lay_at, person, rule, skipping, step, Draft};
-use crate::job::{
-    has_limit, Job, Rule, AT_LEAST, AT_MOST, BY_PERSON, BY_SHOP, MOST_PEOPLE, MOST_RULES, MOST_STEPS, SAME,
-};
+use crate::builder::{lay, lay_at, rule, skipping, step, Draft};
+use crate::classes::{any_form, Scattered, Shared};
+use crate::job::{has_limit, Form, Job, Person, Rule, AT_LEAST, AT_MOST, MOST_PEOPLE, MOST_RULES, MOST_STEPS, SAME};
 use crate::plans::{is_met, plan_by, plans_of, Plan, MOST_PLANS};
 use crate::random::Random;
-use std::collections::{HashMap, HashSet};
+use std::collections::HashSet;
 use std::iter::repeat_with;
 
 /// A size up to `most`, mostly small, sometimes the largest.
@@ -38,8 +37,9 @@ fn scope(random: &mut Random, steps: usize, size: usize) -> u16 {
     chosen[..size].iter().map(|s| 1 << (s - 1)).sum()
 }
 
-pub fn any_level(random: &mut Random) -> u8 {
-    random.within(BY_SHOP.into(), BY_PERSON.into()) as u8
+/// A level that a rule may name.
+pub fn any_level(random: &mut Random, form: Form) -> u8 {
+    random.within(1, form.person_level().into()) as u8
 }
 
 /// One of the kinds that have a limit.
@@ -48,9 +48,9 @@ pub fn any_count(random: &mut Random) -> u8 {
 }
 
 /// A rule of any kind and level over some of the steps, at least two.
-pub fn random_rule(random: &mut Random, steps: usize) -> Rule {
+pub fn random_rule(random: &mut Random, form: Form, steps: usize) -> Rule {
     let kind = random.within(SAME.into(), AT_LEAST.into()) as u8;
-    let level = any_level(random);
+    let level = any_level(random, form);
     if !has_limit(kind) {
         return rule(kind, level, 0, scope(random, steps, 2));
     }
@@ -59,25 +59,20 @@ pub fn random_rule(random: &mut Random, steps: usize) -> Rule {
 }
 
 /// A job of the given size that keeps every field's bounds where the size does.
-pub fn job_of(random: &mut Random, people: usize, steps: usize, rules: usize) -> Job {
+pub fn job_of(random: &mut Random, form: Form, people: usize, steps: usize, rules: usize) -> Job {
     let known = steps.min(MOST_STEPS);
-    let mut shops: HashMap<u16, u16> = HashMap::new();
-    let benches = random.within(1, 70);
+    let mut classes = Scattered::new(random, form);
     let person_tags = tags(random, people);
     let people = person_tags
         .into_iter()
-        .map(|tag| {
-            let bench = random.within(1, benches) as u16;
-            let shop = random.within(1, 5) as u16;
-            let shop = *shops.entry(bench).or_insert(shop);
-            person(tag, shop, bench, random.below(1 << known) as u16)
-        })
+        .map(|tag| Person { tag, class: classes.next(random), permitted: random.below(1 << known) as u16 })
         .collect();
     let rules = if known < 2 { 0 } else { rules };
     Job {
+        form,
         people,
         steps: tags(random, steps).into_iter().map(step).collect(),
-        rules: (0..rules).map(|_| random_rule(random, known)).collect(),
+        rules: (0..rules).map(|_| random_rule(random, form, known)).collect(),
     }
 }
 
@@ -100,40 +95,44 @@ pub fn good_job(random: &mut Random) -> Job {
     let people = size(random, 1, MOST_PEOPLE);
     let steps = size(random, 1, MOST_STEPS);
     let rules = size(random, 0, MOST_RULES);
-    let job = job_of(random, people, steps, rules);
+    let form = any_form(random);
+    let job = job_of(random, form, people, steps, rules);
     with_skipped(random, job)
 }
 
 /// A job of the given size: classes that several people share, permissions tight or loose, few rules, no step skipped.
-fn mixed_job(random: &mut Random, people: usize, steps: usize) -> Job {
-    let (shops, benches) = (random.within(1, 3), random.within(1, 5));
+fn mixed_job(random: &mut Random, form: Form, people: usize, steps: usize) -> Job {
+    let classes = Shared::new(random, form);
     // Each permission is given so many times in four.
     let ease = random.within(1, 4);
     let people = tags(random, people)
         .into_iter()
         .map(|tag| {
-            let bench = random.below(benches);
+            let class = classes.next(random);
             let permitted = (0..steps).filter(|_| random.below(4) < ease).map(|step| 1 << step).sum();
-            person(tag, 1 + (bench % shops) as u16, 1 + bench as u16, permitted)
+            Person { tag, class, permitted }
         })
         .collect();
     let rules = if steps < 2 { 0 } else { random.below(7) };
     Job {
+        form,
         people,
         steps: tags(random, steps).into_iter().map(step).collect(),
-        rules: (0..rules).map(|_| random_rule(random, steps)).collect(),
+        rules: (0..rules).map(|_| random_rule(random, form, steps)).collect(),
     }
 }
 
-/// The same with some of its steps skipped.
+/// The same in any form, with some of its steps skipped.
 fn skipping_job(random: &mut Random, people: usize, steps: usize) -> Job {
-    let job = mixed_job(random, people, steps);
+    let form = any_form(random);
+    let job = mixed_job(random, form, people, steps);
     with_skipped(random, job)
 }
 
-/// A job of the given size with so many steps that remain, whichever they are.
+/// A job of the given size, in any form, with so many steps that remain, whichever they are.
 fn remaining_job(random: &mut Random, people: usize, steps: usize, remaining: usize) -> Job {
-    let job = mixed_job(random, people, steps);
+    let form = any_form(random);
+    let job = mixed_job(random, form, people, steps);
     let order = random.order(steps);
     skipping(job, order[remaining..].iter().map(|step| step - 1))
 }
@@ -161,12 +160,12 @@ pub fn lopsided_job(random: &mut Random) -> Job {
 }
 
 /// A job of the given size, two steps or more and none skipped, that has a plan.
-pub fn planned_job(random: &mut Random, people: usize, steps: usize, rules: usize) -> Job {
-    let job = mixed_job(random, people, steps);
+pub fn planned_job(random: &mut Random, form: Form, people: usize, steps: usize, rules: usize) -> Job {
+    let job = mixed_job(random, form, people, steps);
     planned(random, job, rules)
 }
 
-/// The same with some of its steps skipped.
+/// The same in any form, with some of its steps skipped.
 pub fn planned_skipping_job(random: &mut Random, people: usize, steps: usize, rules: usize) -> Job {
     let job = skipping_job(random, people, steps);
     planned(random, job, rules)
@@ -183,7 +182,7 @@ fn planned(random: &mut Random, mut job: Job, rules: usize) -> Job {
     }
     // The draw ends: there are no more classes in a scope than steps, so an "at most" whose limit is all its steps is always
     // met, and at least one rule in 48 is such: one kind of four, one limit of at most twelve.
-    let any_rule = repeat_with(|| random_rule(random, steps));
+    let any_rule = repeat_with(|| random_rule(random, job.form, steps));
     let rules = any_rule.filter(|rule| is_met(&job, rule, &plan)).take(rules).collect();
     Job { rules, ..job }
 }
@@ -208,9 +207,32 @@ pub fn last_rule_job(random: &mut Random) -> Job {
     let (people, steps) = (random.within(1, 6), random.within(2, 4));
     let all = (1 << steps) - 1;
     let before = up_to(random, 1, MOST_RULES) - 1;
-    let mut rules: Vec<Rule> = (0..before).map(|_| rule(AT_MOST, any_level(random), steps as u8, all)).collect();
-    rules.push(random_rule(random, steps));
-    Job { rules, ..skipping_job(random, people, steps) }
+    let job = skipping_job(random, people, steps);
+    let met = |random: &mut Random| rule(AT_MOST, any_level(random, job.form), steps as u8, all);
+    let mut rules: Vec<Rule> = (0..before).map(|_| met(random)).collect();
+    rules.push(random_rule(random, job.form, steps));
+    Job { rules, ..job }
+}
+
+/// A job with few people and few steps, and at each level two rules that count: people are in many classes and permitted much,
+/// so that counts lie on both sides of limits.
+pub fn counting_job(random: &mut Random) -> Job {
+    let (form, people, steps) = (any_form(random), random.within(3, 6), random.within(3, 5));
+    let mut job = job_of(random, form, people, steps, 0);
+    job.people.iter_mut().for_each(|person| person.permitted |= random.below(1 << steps) as u16);
+    for (level, kind) in (1..=form.person_level()).flat_map(|level| [AT_MOST, AT_LEAST].map(|kind| (level, kind))) {
+        let wide = random.within(2, steps);
+        // A low one for at least and a high one for at most leave plans.
+        let limit = match kind {
+            _ if random.once_in(3) => random.within(1, wide),
+            AT_LEAST => 1,
+            _ => wide - 1,
+        };
+        job.rules.push(rule(kind, level, limit as u8, scope(random, steps, wide)));
+    }
+    let order = random.order(steps);
+    let skipped = random.below(3);
+    skipping(job, order[..skipped].iter().map(|step| step - 1))
 }
 
 /// Up to as many people as leave all plans for so many steps to be tried.
@@ -244,7 +266,7 @@ pub fn last_plan_job(random: &mut Random) -> Job {
     job.steps[kept].skipped = false;
     job.people.iter_mut().for_each(|person| person.permitted &= !(1 << kept));
     job.people[people - 1].permitted = if random.once_in(2) { all } else { all & !(1 << kept) };
-    job.rules = vec![rule(AT_MOST, BY_PERSON, 1, all)];
+    job.rules = vec![rule(AT_MOST, job.form.person_level(), 1, all)];
     job
 }
 
@@ -268,8 +290,8 @@ mod tests {
     #[test]
     fn small_jobs_are_small_and_readable() {
         let mut random = Random::new(2);
-        let jobs = [small_job, lopsided_job, last_rule_job, tried_job, last_plan_job];
-        for draw in jobs.into_iter().cycle().take(2_500) {
+        let jobs = [small_job, lopsided_job, last_rule_job, tried_job, last_plan_job, counting_job];
+        for draw in jobs.into_iter().cycle().take(3_000) {
             let job = draw(&mut random);
             assert!(is_small(&job));
             assert_eq!(read(&laid(&mut random, &job).bytes), Ok(job));
@@ -280,8 +302,8 @@ mod tests {
     fn rules_that_are_always_met_are_drawn() {
         let mut random = Random::new(7);
         let at_most_all = |rule: Rule| rule.kind == AT_MOST && u32::from(rule.limit) == rule.scope.count_ones();
-        for steps in 2..=MOST_STEPS {
-            assert!((0..1_000).any(|_| at_most_all(random_rule(&mut random, steps))), "{steps} steps");
+        for (form, steps) in Form::ALL.into_iter().flat_map(|form| (2..=MOST_STEPS).map(move |steps| (form, steps))) {
+            assert!((0..1_000).any(|_| at_most_all(random_rule(&mut random, form, steps))), "{form}, {steps} steps");
         }
     }
 
@@ -290,8 +312,8 @@ mod tests {
         let mut random = Random::new(6);
         for rules in [0, 1, 7, MOST_RULES] {
             for (people, steps) in [(1, 2), (6, 5), (MOST_PEOPLE, 2), (2, MOST_STEPS)] {
-                for draw in [planned_job, planned_skipping_job] {
-                    let job = draw(&mut random, people, steps, rules);
+                let jobs = Form::ALL.map(|form| planned_job(&mut random, form, people, steps, rules));
+                for job in [planned_skipping_job(&mut random, people, steps, rules)].into_iter().chain(jobs) {
                     assert_eq!((job.people.len(), job.steps.len(), job.rules.len()), (people, steps, rules));
                     assert_eq!(read(&lay(&job).bytes).as_ref(), Ok(&job));
                     assert!(first_plan(&job, &[]).is_some());
@@ -342,6 +364,21 @@ mod tests {
             let times = |word| met.iter().filter(|&&found| found == word).count();
             assert!(["one", "several", "all"].iter().all(|&word| times(word) > 10), "{met:?}");
             assert!(times("none") > 200, "{met:?}");
+        }
+    }
+
+    #[test]
+    fn every_level_of_every_form_is_named_by_a_rule() {
+        let mut random = Random::new(13);
+        let jobs: [fn(&mut Random) -> Job; 6] =
+            [good_job, small_job, lopsided_job, tried_job, last_rule_job, |random| with_rules(random, 3)];
+        for draw in jobs {
+            let drawn: Vec<Job> = (0..1_000).map(|_| draw(&mut random)).collect();
+            let named = drawn.iter().flat_map(|job| job.rules.iter().map(|rule| (job.form.to_string(), rule.level)));
+            let expected = Form::ALL
+                .into_iter()
+                .flat_map(|form| (1..=form.person_level()).map(move |level| (form.to_string(), level)));
+            assert_eq!(named.collect::<BTreeSet<_>>(), expected.collect());
         }
     }
 

@@ -38,7 +38,7 @@ pub fn crew(job: &Job, plan: &[Option<usize>]) -> Vec<(u32, u32)> {
 /// "The number of different classes of its level among the people given to the steps of its scope."
 pub fn count(job: &Job, rule: &Rule, plan: &[Option<usize>]) -> usize {
     let given = job.left(rule.scope).filter_map(|step| plan[step]);
-    let mut classes: Vec<u32> = given.map(|person| job.people[person].class(rule.level)).collect();
+    let mut classes: Vec<u32> = given.map(|person| job.class(person, rule.level)).collect();
     classes.sort_unstable();
     classes.dedup();
     classes.len()
@@ -149,14 +149,22 @@ pub fn spare(job: &Job, cap: usize) -> Option<Spare> {
 #[cfg(test)]
 mod tests {
     use super::*;
-    use crate::builder::{job_w, person, plain_job, rule, skipping, step};
-    use crate::job::{AT_LEAST, BY_BENCH, BY_PERSON, BY_SHOP};
+    use crate::builder::{job_w, job_w_in, person, person_in, plain_job, rule, skipping, step};
+    use crate::job::{Form, AT_LEAST, BY_BENCH, BY_PERSON, BY_SHOP};
 
     #[test]
     fn w_is_planned_as_printed() {
         assert_eq!(first_plan(&job_w(), &[]), Some(vec![Some(0), Some(0), Some(1)]));
         assert_eq!(spare(&job_w(), 2), Some(Spare { count: 1, away: vec![0, 1] }));
         assert_eq!(spare(&job_w(), 1), Some(Spare { count: 1, away: vec![] }));
+    }
+
+    #[test]
+    fn w_is_planned_alike_in_every_form() {
+        for job in Form::ALL.map(job_w_in) {
+            assert_eq!(first_plan(&job, &[]), first_plan(&job_w(), &[]), "{}", job.form);
+            assert_eq!(spare(&job, 2), spare(&job_w(), 2), "{}", job.form);
+        }
     }
 
     #[test]
@@ -192,6 +200,31 @@ mod tests {
     }
 
     #[test]
+    fn the_person_is_the_level_after_the_last() {
+        // Two shops, three benches, four pairs, five people; where levels are missing, the last of them are.
+        let classes: [[u16; 3]; 5] = [[1, 1, 1], [1, 1, 1], [1, 1, 2], [1, 2, 3], [2, 3, 4]];
+        for (class_levels, expected) in [(1, vec![2, 5]), (2, vec![2, 3, 5]), (3, vec![2, 3, 4, 5])] {
+            let form = Form::Second { class_levels };
+            let held = |class: &[u16; 3]| person_in(class[2].into(), &class[..class_levels.into()], 31);
+            let mut job = Job { form, people: classes.iter().map(held).collect(), ..plain_job(1, 5, 0) };
+            job.people.iter_mut().zip(1..).for_each(|(person, tag)| person.tag = tag);
+            let plan = plan_by(&job, 0..5);
+            let counts = (1..=form.person_level()).map(|level| count(&job, &rule(AT_MOST, level, 1, 31), &plan));
+            assert_eq!(counts.collect::<Vec<_>>(), expected, "{form}");
+        }
+    }
+
+    #[test]
+    fn a_rule_by_pair_is_met_by_a_pair_alone() {
+        // 101 and 102 are at one bench, each in a pair of their own; both may do all.
+        let mut job = job_w_in(Form::Second { class_levels: 3 });
+        job.rules = vec![rule(DIFFERENT, 3, 0, 3), rule(SAME, 2, 0, 3)];
+        assert_eq!(first_plan(&job, &[]), Some(plan_by(&job, [0, 1, 0])));
+        job.people[1].class[2] = 1;
+        assert_eq!(first_plan(&job, &[]), None);
+    }
+
+    #[test]
     fn a_job_is_small_while_its_plans_can_be_tried() {
         assert!(is_small(&plain_job(5, 4, 6)));
         assert!(is_small(&plain_job(1, 12, 0)));
@@ -221,7 +254,7 @@ mod tests {
     /// Four steps: A may do the first and the last, B all, C all but the first.
     fn uneven_job(rules: Vec<Rule>) -> Job {
         let people = vec![person(1, 1, 1, 0b1001), person(2, 1, 2, 0b1111), person(3, 2, 3, 0b1110)];
-        Job { people, steps: [10, 20, 30, 40].map(step).into(), rules }
+        Job { people, steps: [10, 20, 30, 40].map(step).into(), rules, ..Job::default() }
     }
 
     /// The people of the first plan, by their places.

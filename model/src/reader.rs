@@ -1,12 +1,12 @@
 //! The card reader as the paper on the job sheet describes it, in the paper's order.
 
-use crate::card::{CARD, HEADER, MOST_BYTES, PERSON, RULE, SKIPPED, STEP};
+use crate::card::{CARD, CLASSES, CLASS_LEVELS, HEADER, MOST_BYTES, PERSON, RULE, SKIPPED, STEP, VERSION_1, VERSION_2};
 use crate::job::{
-    Job, Person, Rule, Step, AT_LEAST, AT_MOST, BY_PERSON, BY_SHOP, DIFFERENT, MOST_PEOPLE, MOST_RULES, MOST_STEPS,
-    SAME,
+    Form, Job, Person, Rule, Step, AT_LEAST, AT_MOST, DIFFERENT, MOST_CLASS_LEVELS, MOST_PEOPLE, MOST_RULES,
+    MOST_STEPS, SAME,
 };
 use crate::refusal::{
-    refuse, Refusal, BAD_FIELD, BAD_HEADER, BAD_INDEX, BAD_LENGTH, BENCH_IN_TWO_SHOPS, CARD_AGAIN, LOOSE_CARD,
+    refuse, Refusal, BAD_FIELD, BAD_HEADER, BAD_INDEX, BAD_LENGTH, CARD_AGAIN, CLASS_IN_TWO_CLASSES, LOOSE_CARD,
     NONE_OR_TOO_MANY, TAG_TWICE, WRONG_KIND,
 };
 use std::collections::HashSet;
@@ -23,16 +23,30 @@ fn zero(bytes: &[u8]) -> bool {
     bytes.iter().all(|&byte| byte == 0)
 }
 
-/// "Header, card 0: byte 1 is 1, next is 0; bytes 10-11 the number of cards in the file."
-fn good_header(card: &[u8], cards: usize) -> bool {
-    card[0] == HEADER && card[1] == 1 && word(card, 2) == 0 && word(card, 10) as usize == cards && zero(&card[12..])
+/// The form that the first card states, whatever else is wrong with it: in version 1 byte 12 is zero, and "in a version 2 sheet
+/// (header byte 1 is 2) header byte 12 gives the number of class levels above the person, 1 to 3".
+pub fn stated_form(sheet: &[u8]) -> Option<Form> {
+    let levels = *sheet.get(CLASS_LEVELS)?;
+    match (sheet[1], levels) {
+        (VERSION_1, 0) => Some(Form::First),
+        (VERSION_2, 1..) if usize::from(levels) <= MOST_CLASS_LEVELS => Some(Form::Second { class_levels: levels }),
+        _ => None,
+    }
 }
 
-/// "Tag, shop and bench are not zero." Permitted bits 12 to 15 are tested here, lower ones when the steps are known.
-fn person(card: &[u8]) -> Option<Person> {
-    let found = Person { tag: long(card, 4), shop: word(card, 8), bench: word(card, 10), permitted: word(card, 12) };
-    let named = found.tag != 0 && found.shop != 0 && found.bench != 0;
-    let unnamed = card[1] == 0 && zero(&card[14..]);
+/// "Header, card 0: next is 0; bytes 10-11 the number of cards in the file."
+fn header(card: &[u8], cards: usize) -> Option<Form> {
+    let good = card[0] == HEADER && word(card, 2) == 0 && word(card, 10) as usize == cards && zero(&card[13..]);
+    stated_form(card).filter(|_| good)
+}
+
+/// "Bytes 8-9, 10-11 and 14-15 of a person card, not zero where used, zero where not." Permitted bits 12 to 15 are tested here,
+/// lower ones when the steps are known.
+fn person(card: &[u8], form: Form) -> Option<Person> {
+    let found = Person { tag: long(card, 4), class: CLASSES.map(|at| word(card, at)), permitted: word(card, 12) };
+    let (used, unused) = found.class.split_at(form.class_levels().into());
+    let named = found.tag != 0 && used.iter().all(|&class| class != 0);
+    let unnamed = card[1] == 0 && unused.iter().all(|&class| class == 0);
     (named && unnamed && found.permitted < 1 << MOST_STEPS).then_some(found)
 }
 
@@ -43,8 +57,9 @@ fn step(card: &[u8]) -> Option<Step> {
     (found.tag != 0 && marked && zero(&card[8..])).then_some(found)
 }
 
-/// Rule kinds 1 and 2 have two steps in scope and limit 0; 3 and 4 two or more, and limit 1 to their number.
-fn rule(card: &[u8], steps: usize) -> Option<Rule> {
+/// Rule kinds 1 and 2 have two steps in scope and limit 0; 3 and 4 two or more, and limit 1 to their number. The person is "the
+/// highest a rule may name".
+fn rule(card: &[u8], form: Form, steps: usize) -> Option<Rule> {
     let found = Rule { kind: card[1], level: card[4], limit: card[5], scope: word(card, 6) };
     let size = found.scope.count_ones();
     let sized = match found.kind {
@@ -52,7 +67,7 @@ fn rule(card: &[u8], steps: usize) -> Option<Rule> {
         AT_MOST | AT_LEAST => size >= 2 && found.limit >= 1 && u32::from(found.limit) <= size,
         _ => false,
     };
-    let leveled = (BY_SHOP..=BY_PERSON).contains(&found.level);
+    let leveled = (1..=form.person_level()).contains(&found.level);
     let within = usize::from(found.scope) < 1 << steps;
     (sized && leveled && within && zero(&card[8..])).then_some(found)
 }
@@ -113,20 +128,20 @@ pub fn read(sheet: &[u8]) -> Result<Job, Refusal> {
         return refuse(BAD_LENGTH, 0);
     }
     let cards: Vec<&[u8]> = sheet.chunks(CARD).collect();
-    let header = cards[0];
-    if !good_header(header, cards.len()) {
+    let first = cards[0];
+    let Some(form) = header(first, cards.len()) else {
         return refuse(BAD_HEADER, 0);
-    }
+    };
     let mut reached = HashSet::new();
 
     let link = Link { kind: PERSON, most: MOST_PEOPLE };
-    let people = chain(&cards, &mut reached, word(header, 4), link, person)?;
+    let people = chain(&cards, &mut reached, word(first, 4), link, |card| person(card, form))?;
     if people.is_empty() {
         return refuse(NONE_OR_TOO_MANY, 0);
     }
 
     let link = Link { kind: STEP, most: MOST_STEPS };
-    let steps = chain(&cards, &mut reached, word(header, 6), link, step)?;
+    let steps = chain(&cards, &mut reached, word(first, 6), link, step)?;
     if steps.is_empty() {
         return refuse(NONE_OR_TOO_MANY, 0);
     }
@@ -137,8 +152,8 @@ pub fn read(sheet: &[u8]) -> Result<Job, Refusal> {
     }
 
     let link = Link { kind: RULE, most: MOST_RULES };
-    let fields = |card: &[u8]| rule(card, steps.len());
-    let rules = chain(&cards, &mut reached, word(header, 8), link, fields)?;
+    let fields = |card: &[u8]| rule(card, form, steps.len());
+    let rules = chain(&cards, &mut reached, word(first, 8), link, fields)?;
 
     if let Some(card) = clash(&people, |e, p| e.tag == p.tag) {
         return refuse(TAG_TWICE, card);
@@ -146,13 +161,14 @@ pub fn read(sheet: &[u8]) -> Result<Job, Refusal> {
     if let Some(card) = clash(&steps, |e, s| e.tag == s.tag) {
         return refuse(TAG_TWICE, card);
     }
-    if let Some(card) = clash(&people, |e, p| e.bench == p.bench && e.shop != p.shop) {
-        return refuse(BENCH_IN_TWO_SHOPS, card);
+    // "The first person in crew order to show it", whatever the level.
+    if let Some(card) = clash(&people, |e, p| form.nested_levels().any(|level| p.puts_in_two(e, level))) {
+        return refuse(CLASS_IN_TWO_CLASSES, card);
     }
     if let Some(card) = (1..cards.len()).find(|card| !reached.contains(card)) {
         return refuse(LOOSE_CARD, card);
     }
-    Ok(Job { people: held(people), steps: held(steps), rules: held(rules) })
+    Ok(Job { form, people: held(people), steps: held(steps), rules: held(rules) })
 }
 
 /// The answer as the program under test writes it: of the steps those that remain.
@@ -166,6 +182,7 @@ pub fn text(answer: &Result<Job, Refusal>) -> String {
 #[cfg(test)]
 mod tests {
     use super::*;
+    use crate::builder::{job_w_in, lay, sheet_w_in, Draft};
 
     /// Sheet W, byte by byte.
     const W: [u8; 176] = [
@@ -183,7 +200,7 @@ mod tests {
     ];
 
     fn at(tag: u32, shop: u16, bench: u16, permitted: u16) -> Person {
-        Person { tag, shop, bench, permitted }
+        Person { tag, class: [shop, bench, 0], permitted }
     }
 
     fn over(kind: u8, level: u8, limit: u8, scope: u16) -> Rule {
@@ -244,6 +261,66 @@ mod tests {
             let mut sheet = all_skipped;
             sheet[at] = value;
             assert_eq!(text(&read(&sheet)), answer);
+        }
+    }
+
+    fn answer(sheet: Draft) -> String {
+        text(&read(&sheet.bytes))
+    }
+
+    #[test]
+    fn a_header_states_its_version_and_in_version_2_its_class_levels() {
+        for (version, levels) in (0..=255).flat_map(|version| (0..=255).map(move |levels| (version, levels))) {
+            let form = match (version, levels) {
+                (1, 0) => Some(Form::First),
+                (2, 1..=3) => Some(Form::Second { class_levels: levels }),
+                _ => None,
+            };
+            let sheet = sheet_w_in(form.unwrap_or_default()).byte(0, 1, version).byte(0, 12, levels);
+            let expected = form.map_or(refuse(BAD_HEADER, 0), |form| Ok(job_w_in(form)));
+            assert_eq!(read(&sheet.bytes), expected, "version {version}, {levels} levels");
+        }
+        for (form, at) in Form::ALL.into_iter().flat_map(|form| [13, 14, 15].map(|at| (form, at))) {
+            assert_eq!(answer(sheet_w_in(form).byte(0, at, 1)), "REFUSED 4 CARD 0", "{form}, byte {at}");
+        }
+    }
+
+    #[test]
+    fn a_class_is_not_zero_where_its_level_is_used_and_zero_where_not() {
+        for (form, level) in Form::ALL.into_iter().flat_map(|form| [1, 2, 3].map(|level| (form, level))) {
+            let is_used = level <= form.class_levels();
+            for class in [1, 256, u16::MAX] {
+                let sheet = sheet_w_in(form).class(3, level, if is_used { 0 } else { class });
+                assert_eq!(answer(sheet), "REFUSED 8 CARD 3", "{form}, level {level}, class {class}");
+            }
+        }
+    }
+
+    #[test]
+    fn the_person_is_the_highest_level_that_a_rule_may_name() {
+        for (form, level) in Form::ALL.into_iter().flat_map(|form| [0, 1, 2, 3, 4, 5, 255].map(|level| (form, level))) {
+            let is_named = (1..=form.class_levels() + 1).contains(&level);
+            let expected = if is_named { "READ 4 3 3" } else { "REFUSED 8 CARD 9" };
+            assert_eq!(answer(sheet_w_in(form).byte(9, 4, level)), expected, "{form}, level {level}");
+        }
+    }
+
+    #[test]
+    fn the_first_person_to_put_a_class_in_two_is_named_whatever_the_level() {
+        let three = sheet_w_in(Form::Second { class_levels: 3 });
+        // 103, who comes before 104, is of a pair of another bench; 104 is at a bench of another shop.
+        assert_eq!(answer(three.clone().class(3, 3, 1).class(4, 2, 2)), "REFUSED 11 CARD 3");
+        assert_eq!(answer(three.clone().class(3, 2, 1).class(3, 1, 2).class(4, 3, 1)), "REFUSED 11 CARD 3");
+        assert_eq!(answer(three.class(4, 3, 3)), "REFUSED 11 CARD 4");
+    }
+
+    #[test]
+    fn with_one_level_no_class_is_in_two() {
+        let job = job_w_in(Form::Second { class_levels: 1 });
+        for shops in [[1, 1, 1, 1], [1, 2, 1, 2], [4, 3, 2, 1]] {
+            let mut job = job.clone();
+            job.people.iter_mut().zip(shops).for_each(|(person, shop)| person.class[0] = shop);
+            assert_eq!(read(&lay(&job).bytes), Ok(job));
         }
     }
 

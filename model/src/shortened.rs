@@ -20,6 +20,7 @@ fn shorter(job: &Job, rule: &Rule) -> Option<Rule> {
 pub fn shortened(job: &Job) -> Job {
     let permitted = |person: &Person| Person { permitted: moved(job, person.permitted), ..person.clone() };
     Job {
+        form: job.form,
         people: job.people.iter().map(permitted).collect(),
         steps: job.remaining().map(|step| job.steps[step].clone()).collect(),
         rules: job.rules.iter().filter_map(|rule| shorter(job, rule)).collect(),

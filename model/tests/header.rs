@@ -2,7 +2,7 @@
 
 use model::answers::{MOST_CAP, MOST_CREW_BYTES, SPARE_BYTES, STEP_BYTES};
 use model::card::{CARD, MOST_BYTES, MOST_CARDS};
-use model::job::{MOST_PEOPLE, MOST_RULES, MOST_STEPS};
+use model::job::{MOST_CLASS_LEVELS, MOST_PEOPLE, MOST_RULES, MOST_STEPS};
 use model::refusal::*;
 use model::signing::{Work, MOST_REFUSALS};
 use std::mem::{align_of, offset_of, size_of};
@@ -25,6 +25,7 @@ fn sizes_are_the_headers() {
     assert_eq!(stated("MOST_PEOPLE"), MOST_PEOPLE);
     assert_eq!(stated("MOST_STEPS"), MOST_STEPS);
     assert_eq!(stated("MOST_RULES"), MOST_RULES);
+    assert_eq!(stated("MOST_CLASS_LEVELS"), MOST_CLASS_LEVELS);
     assert_eq!(stated("STEP_BYTES"), STEP_BYTES);
     assert_eq!(stated("MOST_CREW_BYTES"), MOST_CREW_BYTES);
     assert_eq!(stated("SPARE_BYTES"), SPARE_BYTES);
@@ -93,7 +94,8 @@ fn refusals_are_the_headers() {
         ("BAD_FIELD", BAD_FIELD),
         ("NONE_OR_TOO_MANY", NONE_OR_TOO_MANY),
         ("TAG_TWICE", TAG_TWICE),
-        ("BENCH_IN_TWO_SHOPS", BENCH_IN_TWO_SHOPS),
+        ("BENCH_IN_TWO_SHOPS", CLASS_IN_TWO_CLASSES),
+        ("CLASS_IN_TWO_CLASSES", CLASS_IN_TWO_CLASSES),
         ("LOOSE_CARD", LOOSE_CARD),
         ("NO_PLAN", NO_PLAN),
         ("UNKNOWN", UNKNOWN),

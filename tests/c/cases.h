@@ -5,7 +5,7 @@
 #include <stddef.h>
 #include <stdint.h>
 
-enum { UNDAMAGED = 65535, MOST_SHEETS = 256, MOST_NAME = 255 };
+enum { UNDAMAGED = 65535, MOST_SHEETS = 1024, MOST_NAME = 255 };
 
 /* By their numbers in the file. */
 enum call { CREW, SPARE, CREW_BY_TRIAL };

@@ -1,5 +1,5 @@
-/* Jobs under work, by sheet W: where each field lies, openings, signings, skipped steps, copies, and memory that no call
- * has made.
+/* Jobs under work, by sheet W: where each field lies, openings, signings, skipped steps, other levels, copies, and
+ * memory that no call has made.
  *
  *   signing            sheets read-only; jobs and sheets end, then begin, at a page that faults
  *   signing --plain    areas from malloc, for valgrind: what was never written to must not matter */
@@ -106,6 +106,18 @@ static void refuse_openings(struct fulmarinvar_job *job) {
     card(&bad, 6)[15] = 0;
     card(&bad, 6)[1] = 2;
     expect("a step neither skipped nor not", open_with(job, &bad, length), 8 * 256 + 6);
+    sheet_of_pairs(&bad);
+    length = sheet_length(&bad);
+    card(&bad, 0)[12] = 0;
+    expect("no class levels", open_with(job, &bad, length), 4 * 256);
+    card(&bad, 0)[12] = 2;
+    expect("a pair too many", open_with(job, &bad, length), 8 * 256 + 1);
+    card(&bad, 0)[12] = 3;
+    card(&bad, 3)[14] = 1;
+    expect("a pair on two benches", open_with(job, &bad, length), FULMARINVAR_CLASS_IN_TWO_CLASSES * 256 + 3);
+    sheet_w(&bad);
+    card(&bad, 2)[8] = 2;
+    expect("a bench in two shops", open_with(job, &bad, sheet_length(&bad)), FULMARINVAR_BENCH_IN_TWO_SHOPS * 256 + 2);
     sheet_w(&bad);
     rule(&bad, DIFFERENT, BY_SHOP, 0, 6);
     expect("no plan", open_with(job, &bad, sheet_length(&bad)), NO_PLAN);
@@ -171,6 +183,51 @@ static void with_all_skipped_every_step_is_unknown(void) {
     area_give_back(&area);
 }
 
+/* 10 and 20 are of one bench and of two pairs. */
+static void pairs_are_signed(void) {
+    struct area area = take_job();
+    struct fulmarinvar_job *job = job_of(&area);
+    struct sheet pairs;
+    sheet_of_pairs(&pairs);
+    expect("opening", open_with(job, &pairs, sheet_length(&pairs)), 0);
+    sign(job, 30, 104, REFUSED);
+    sign(job, 30, 101, GRANTED);
+    sign(job, 20, 101, REFUSED);
+    sign(job, 10, 102, REFUSED);
+    sign(job, 20, 102, GRANTED);
+    sign(job, 10, 101, GRANTED);
+    expect_bytes("signers", job->signer, "\1\2\1\0\0\0\0\0\0\0\0\0", FULMARINVAR_MOST_STEPS);
+    expect_refusals(job, 3);
+    area_give_back(&area);
+}
+
+/* W's shops alone: the rule by bench is one by shop, and 2 is the person. */
+static void shops_alone_are_signed(void) {
+    struct area area = take_job();
+    struct fulmarinvar_job *job = job_of(&area);
+    struct sheet shops;
+    begin_levels(&shops, 1);
+    person_in(&shops, 101, (const uint16_t[]){1}, 7);
+    person_in(&shops, 102, (const uint16_t[]){1}, 7);
+    person_in(&shops, 103, (const uint16_t[]){2}, 7);
+    step(&shops, 10);
+    step(&shops, 20);
+    step(&shops, 30);
+    rule(&shops, SAME, BY_SHOP, 0, 3);
+    rule(&shops, DIFFERENT, 2, 0, 3);
+    rule(&shops, DIFFERENT, BY_SHOP, 0, 6);
+    expect("opening", open_with(job, &shops, sheet_length(&shops)), 0);
+    sign(job, 10, 103, REFUSED);
+    sign(job, 30, 101, REFUSED);
+    sign(job, 20, 101, GRANTED);
+    sign(job, 10, 101, REFUSED);
+    sign(job, 10, 102, GRANTED);
+    sign(job, 30, 103, GRANTED);
+    expect_bytes("signers", job->signer, "\2\1\3\0\0\0\0\0\0\0\0\0", FULMARINVAR_MOST_STEPS);
+    expect_refusals(job, 3);
+    area_give_back(&area);
+}
+
 /* The original is changed, then gone. */
 static void a_copy_is_independent(void) {
     struct area area = take_job(), other = take_job();
@@ -203,6 +260,8 @@ static const struct test tests[] = {
     {"refused openings leave every byte", refused_openings_leave_every_byte},
     {"a skipped step is unknown", a_skipped_step_is_unknown},
     {"with all skipped every step is unknown", with_all_skipped_every_step_is_unknown},
+    {"pairs are signed", pairs_are_signed},
+    {"shops alone are signed", shops_alone_are_signed},
     {"a copy is independent", a_copy_is_independent},
     {"known cases of other memory", known_cases_of_other_memory},
     {"noise for a job", noise_for_a_job},

@@ -1,5 +1,5 @@
-//! The file from which the trials in C take their cases: the paper's sheets and those with skipped steps, W with every area up to
-//! that of its crew, also with steps skipped, then W cut short and W damaged.
+//! The file from which the trials in C take their cases: the paper's sheets, those with skipped steps and those of version 2, W
+//! with every area up to that of its crew, also with steps skipped, then W cut short and W damaged, in every form.
 //!
 //! All numbers have their low byte first. First the sheets: how many (u16), and for each its length (u16) and bytes.
 //! Then the cases: how many (u32), and for each
@@ -9,7 +9,9 @@
 
 use crate::calls;
 use model::answers::{self, answer, Call, SPARE_BYTES};
-use model::builder::{sheet_w, skipped_w, Draft};
+use model::builder::{sheet_w, sheet_w_in, skipped_w, Draft};
+use model::card::CARD;
+use model::job::Form;
 use model::reader::read;
 
 const UNDAMAGED: u16 = u16::MAX;
@@ -63,32 +65,50 @@ fn rooms(name: &str, sheet: &Draft) -> Vec<calls::Trial> {
     each.map(|(call, room)| asked(name(call, room), call, &sheet.bytes, room)).collect()
 }
 
-/// W, and W with one and with all of its steps skipped.
+/// W, W with one and with all of its steps skipped, and W in version 2.
 fn rooms_of_w() -> Vec<calls::Trial> {
     let (one, all) = (sheet_w().skip(6), skipped_w());
-    [rooms("W", &sheet_w()), rooms("W, step 20 skipped", &one), rooms("W, all steps skipped", &all)].concat()
+    let pairs = sheet_w_in(Form::Second { class_levels: 3 });
+    [
+        rooms("W", &sheet_w()),
+        rooms("W, step 20 skipped", &one),
+        rooms("W, all steps skipped", &all),
+        rooms("W with pairs", &pairs),
+    ]
+    .concat()
 }
 
-/// W cut to each length, and with each bit of each byte changed.
+/// W cut to each length.
+fn cuts() -> Vec<(Source, Draft)> {
+    let cut = |kept| (Source { sheet: 0, kept, damage: None }, sheet_w().cut(kept));
+    (0..=sheet_w().bytes.len()).map(cut).collect()
+}
+
+/// A sheet of the file with each bit of its first bytes changed.
+fn flips(sheet: usize, draft: &Draft, bytes: usize) -> Vec<(Source, Draft)> {
+    let flip = |at: usize, bit: usize| {
+        let mut flipped = draft.clone();
+        flipped.bytes[at] ^= 1 << bit;
+        let damage = Some((at, flipped.bytes[at]));
+        (Source { sheet, kept: draft.bytes.len(), damage }, flipped)
+    };
+    (0..bytes).flat_map(|at| (0..8).map(move |bit| (at, bit))).map(|(at, bit)| flip(at, bit)).collect()
+}
+
+/// W in each form; of version 2 its header and its people, in which it differs from version 1.
 fn damages() -> Vec<(Source, Draft)> {
-    let w = sheet_w();
-    let length = w.bytes.len();
-    let mut found = vec![];
-    for kept in 0..=length {
-        found.push((Source { sheet: 0, kept, damage: None }, w.clone().cut(kept)));
-    }
-    for (at, bit) in (0..length).flat_map(|at| (0..8).map(move |bit| (at, bit))) {
-        let mut draft = w.clone();
-        draft.bytes[at] ^= 1 << bit;
-        let damage = Some((at, draft.bytes[at]));
-        found.push((Source { sheet: 0, kept: length, damage }, draft));
+    let mut found = cuts();
+    for (sheet, form) in Form::ALL.into_iter().enumerate() {
+        let w = sheet_w_in(form);
+        let bytes = if form == Form::First { w.bytes.len() } else { CARD * (1 + 4) };
+        found.extend(flips(sheet, &w, bytes));
     }
     found
 }
 
 /// The whole file.
 pub fn file() -> Vec<u8> {
-    let mut sheets = vec![sheet_w().bytes];
+    let mut sheets: Vec<Vec<u8>> = Form::ALL.map(|form| sheet_w_in(form).bytes).into();
     let mut cases = vec![];
     let mut count: u32 = 0;
     for trial in calls::all().into_iter().chain(rooms_of_w()) {

@@ -1,6 +1,6 @@
 //! The stored listings: what a program prints for each of some sheets, under the sheet's name.
 
-use crate::skipped;
+use crate::by_hand;
 use crate::trials::papers;
 use model::builder::{last_alone, lay, plain_job, rule, skipping};
 use model::job::{Job, Rule, AT_LEAST, AT_MOST, BY_PERSON, BY_SHOP, DIFFERENT, MOST_PEOPLE, MOST_RULES, MOST_STEPS};
@@ -14,10 +14,10 @@ pub struct Stored {
 
 pub type Named = (String, Vec<u8>);
 
-/// The planning program on the paper's sheets, and on sheets with skipped steps.
+/// The planning program on the paper's sheets, and on sheets with skipped steps and with other levels.
 pub const PLANNER: Stored = Stored { file: "tests/listings.txt", listing: model::listing::listing, sheets: to_plan };
 
-/// The program that tries every plan on the paper's sheets, which have few, on sheets with more, and with skipped steps.
+/// The program that tries every plan on the paper's sheets, which have few, on sheets with more, with skipped steps and with other levels.
 pub const BY_TRIAL: Stored = Stored { file: "tests/by_trial.txt", listing: model::trial::listing, sheets: to_try };
 
 impl Stored {
@@ -35,13 +35,13 @@ fn of_papers() -> Vec<Named> {
     papers::trials().into_iter().map(|trial| (trial.name, trial.sheet)).collect()
 }
 
-fn with_skipped() -> impl Iterator<Item = Named> {
-    skipped::all().into_iter().map(|sheet| named(&sheet.name, &sheet.job))
+fn by_hand() -> impl Iterator<Item = Named> {
+    by_hand::all().into_iter().map(|sheet| named(&sheet.name, &sheet.job))
 }
 
 fn to_plan() -> Vec<Named> {
     let mut sheets = of_papers();
-    sheets.extend(with_skipped());
+    sheets.extend(by_hand());
     sheets
 }
 
@@ -49,7 +49,7 @@ fn to_try() -> Vec<Named> {
     let mut sheets = of_papers();
     sheets.extend(by_plans());
     sheets.extend(by_size());
-    sheets.extend(with_skipped());
+    sheets.extend(by_hand());
     sheets.extend(by_plans_left());
     sheets
 }
@@ -155,9 +155,9 @@ mod tests {
     }
 
     #[test]
-    fn sheets_with_skipped_steps_are_listed_as_was_worked_out_by_hand() {
+    fn sheets_with_skipped_steps_and_other_levels_are_listed_as_was_worked_out_by_hand() {
         let file = PLANNER.text();
-        for sheet in skipped::all() {
+        for sheet in by_hand::all() {
             let Some(planned) = sheet.planned else {
                 assert_eq!(under(&file, &sheet.name), Some("REFUSED 13 CARD 0\n"), "{}", sheet.name);
                 continue;

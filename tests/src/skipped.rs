@@ -1,30 +1,12 @@
 //! Sheets with skipped steps, and what was worked out for them by hand: W with one, several and all of its steps skipped, a rule
 //! of each kind left with two steps, one and none, and sheets of full size.
 
+use crate::by_hand::{planned, Planned, Sheet};
 use model::builder::{job_w, one_by_one, person, plain_job, rule, skipping, step};
 use model::job::{
     Job, Rule, AT_LEAST, AT_MOST, BY_BENCH, BY_PERSON, BY_SHOP, DIFFERENT, MOST_PEOPLE, MOST_RULES, MOST_STEPS, SAME,
 };
 use model::reader::read;
-
-pub struct Sheet {
-    pub name: String,
-    pub job: Job,
-    /// How many of its steps remain.
-    pub remaining: usize,
-    /// Nothing where no plan is valid.
-    pub planned: Option<Planned>,
-}
-
-pub struct Planned {
-    /// Step tag and person tag.
-    pub crew: Vec<(u32, u32)>,
-    /// The spare count with cap 2, and who is away where it is below the cap.
-    pub count: usize,
-    pub away: Vec<u32>,
-    /// For each rule its count.
-    pub figures: Vec<usize>,
-}
 
 /// Whether some steps are skipped and some remain.
 pub fn skips_some(job: &Job) -> bool {
@@ -38,10 +20,6 @@ pub fn all() -> Vec<Sheet> {
     sheets.extend(of_one_rule());
     sheets.extend(of_full_size());
     sheets
-}
-
-fn planned(crew: &[(u32, u32)], count: usize, away: &[u32], figures: &[usize]) -> Option<Planned> {
-    Some(Planned { crew: crew.to_vec(), count, away: away.to_vec(), figures: figures.to_vec() })
 }
 
 /// The job with the steps of these places skipped.
@@ -90,7 +68,7 @@ fn of_w_and_a_rule() -> Vec<Sheet> {
 fn of_one_rule() -> Vec<Sheet> {
     let left = |name: &str, rule: &Rule, skipped: &[usize], planned| {
         let people = vec![person(101, 1, 1, 0b1001), person(102, 1, 2, 0b1111), person(103, 2, 3, 0b1110)];
-        let job = Job { people, steps: [10, 20, 30, 40].map(step).into(), rules: vec![rule.clone()] };
+        let job = Job { people, steps: [10, 20, 30, 40].map(step).into(), rules: vec![rule.clone()], ..Job::default() };
         let Rule { kind, level, limit, scope } = rule;
         sheet(&format!("rule {kind},{level},{limit},{scope} left with {name}"), job, skipped, planned)
     };
@@ -133,29 +111,4 @@ fn of_full_size() -> Vec<Sheet> {
         sheet("all of 12 steps but the last", job(1), &every[..11], planned(&[(2_012, 1_001)], 2, &[], &[0])),
         sheet("one person, one step, not permitted", barred, &[0], planned(&[], 2, &[], &[])),
     ]
-}
-
-#[cfg(test)]
-mod tests {
-    use super::*;
-    use model::plans::{count, crew, first_plan, is_small, spare};
-
-    #[test]
-    fn the_brute_force_finds_what_was_worked_out() {
-        for Sheet { name, job, remaining, planned } in all() {
-            assert!(is_small(&job), "{name}");
-            assert_eq!(job.remaining().count(), remaining, "{name}");
-            let plan = first_plan(&job, &[]);
-            assert_eq!(plan.is_some(), planned.is_some(), "{name}");
-            let (Some(plan), Some(planned)) = (plan, planned) else {
-                continue;
-            };
-            assert_eq!(crew(&job, &plan), planned.crew, "{name}");
-            let figures: Vec<usize> = job.rules.iter().map(|rule| count(&job, rule, &plan)).collect();
-            assert_eq!(figures, planned.figures, "{name}");
-            let found = spare(&job, 2).expect("there is a plan");
-            let away: Vec<u32> = found.away.iter().map(|&person| job.people[person].tag).collect();
-            assert_eq!((found.count, away), (planned.count, planned.away), "{name}");
-        }
-    }
 }

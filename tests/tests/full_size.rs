@@ -1,13 +1,13 @@
-//! Jobs of full size, which are too large for the brute force: under work, and with skipped steps.
+//! Jobs of full size, which are too large for the brute force: under work, and with skipped steps, in every form.
 
 use model::answers::{Call, MOST_CAP, MOST_CREW_BYTES};
 use model::builder::{lay, person, rule, skipping, step};
 use model::card::MOST_BYTES;
-use model::job::{Job, AT_MOST, BY_BENCH, BY_PERSON, MOST_PEOPLE, MOST_RULES, MOST_STEPS, SAME};
+use model::job::{Form, Job, AT_MOST, BY_BENCH, BY_PERSON, MOST_PEOPLE, MOST_RULES, MOST_STEPS, SAME};
 use model::library::{open, run, sign};
 use model::plans::{is_valid, plan_by};
 use model::random::Random;
-use model::recipe::practice_job;
+use model::recipe::{practice_job, practice_job_in};
 use model::shortened::shortened;
 use model::signing::Work;
 use sheet_tests::numbers::{GRANTED, REFUSED, SIGNED, UNKNOWN};
@@ -23,6 +23,7 @@ fn longest_sheet() -> Vec<u8> {
         people: (0..MOST_PEOPLE).map(|i| person(1 + i as u32, 1, 1 + i as u16 / 32, may(i))).collect(),
         steps: (0..MOST_STEPS).map(|j| step(1 + j as u32)).collect(),
         rules,
+        ..Job::default()
     };
     lay(&job).bytes
 }
@@ -63,8 +64,9 @@ fn narrowed(job: &Job, work: &Work) -> Vec<u8> {
 fn full_size_jobs_are_granted_what_the_crew_call_finds() {
     let random = &mut Random::new(5);
     let (mut jobs, mut granted, mut refused) = (0, 0, 0);
-    for (start, rules) in (1..=12).flat_map(|start| [0, 4, 8, 10, 12].map(|rules| (start, rules))) {
-        let job = practice_job(start, MOST_STEPS, MOST_PEOPLE, rules);
+    let mut forms = vec![];
+    for job in practice_jobs(12, &[0, 4, 8, 10, 12]) {
+        let name = format!("{}, {} rules", job.form, job.rules.len());
         let mut work = Work::NEW;
         if open(&mut work, &lay(&job).bytes) != 0 {
             continue;
@@ -75,7 +77,7 @@ fn full_size_jobs_are_granted_what_the_crew_call_finds() {
                 signed.signer[step] = person as u8 + 1;
                 let planned = run(Call::Crew, &narrowed(&job, &signed), &mut [0; MOST_CREW_BYTES]) == 0;
                 let number = sign(&mut work, job.steps[step].tag, job.people[person].tag);
-                assert_eq!(number, if planned { GRANTED } else { REFUSED }, "start {start}, {rules} rules");
+                assert_eq!(number, if planned { GRANTED } else { REFUSED }, "{name}");
                 if planned {
                     granted += 1;
                     break;
@@ -84,26 +86,38 @@ fn full_size_jobs_are_granted_what_the_crew_call_finds() {
             }
         }
         let plan = plan_by(&job, work.signer.map(|signer| usize::from(signer) - 1));
-        assert!(is_valid(&job, &plan), "start {start}, {rules} rules");
+        assert!(is_valid(&job, &plan), "{name}");
         jobs += 1;
+        forms.push(job.form);
     }
+    assert!(Form::ALL.iter().all(|form| forms.contains(form)));
     assert!(jobs >= 30 && granted == MOST_STEPS * jobs && refused > granted, "{jobs} {granted} {refused}");
+}
+
+/// Practice jobs of full size with so many rules: those of version 1 with so many starts, those of version 2 with a third.
+fn practice_jobs(starts: u32, rules: &[usize]) -> Vec<Job> {
+    let mut jobs = vec![];
+    for form in Form::ALL {
+        let starts = if form == Form::First { starts } else { starts.div_ceil(3) };
+        let sizes = (1..=starts).flat_map(|start| rules.iter().map(move |&rules| (start, rules)));
+        jobs.extend(sizes.map(|(start, rules)| practice_job_in(form, start, MOST_STEPS, MOST_PEOPLE, rules)));
+    }
+    jobs
 }
 
 /// Practice jobs of full size, some of their steps skipped: at least one of twelve remains.
 fn skipping_jobs() -> impl Iterator<Item = Job> {
     let mut random = Random::new(7);
-    let sizes = (1..=40).flat_map(|start| [0, 4, 8, 12, 20, 64].map(|rules| (start, rules)));
-    sizes.map(move |(start, rules)| {
+    practice_jobs(40, &[0, 4, 8, 12, 20, 64]).into_iter().map(move |job| {
         let order = random.order(MOST_STEPS);
         let left = random.within(1, MOST_STEPS - 1);
-        skipping(practice_job(start, MOST_STEPS, MOST_PEOPLE, rules), order[left..].iter().map(|step| step - 1))
+        skipping(job, order[left..].iter().map(|step| step - 1))
     })
 }
 
 #[test]
 fn full_size_jobs_are_planned_as_the_sheets_without_their_skipped_steps() {
-    let (mut planned, mut refused) = (0, 0);
+    let (mut planned, mut refused) = (vec![], 0);
     for job in skipping_jobs() {
         for call in [Call::Crew, Call::Spare { cap: MOST_CAP }] {
             let [found, expected] = [lay(&job), lay(&shortened(&job))].map(|sheet| {
@@ -112,12 +126,13 @@ fn full_size_jobs_are_planned_as_the_sheets_without_their_skipped_steps() {
             });
             assert!(found == expected, "{call:?}, {job:?}");
             match found.0 {
-                0 => planned += 1,
+                0 => planned.push(job.form),
                 _ => refused += 1,
             }
         }
     }
-    assert!(planned > 100 && refused > 100, "{planned} {refused}");
+    let times = Form::ALL.map(|form| planned.iter().filter(|&&met| met == form).count());
+    assert!(times[0] > 100 && times[1..].iter().all(|&times| times > 30) && refused > 100, "{times:?} {refused}");
 }
 
 /// On both sheets some people in turn try to sign every step; a skipped one is not on the second, and unknown on both.

@@ -1,7 +1,8 @@
-//! The library on the paper's sheets, on those with skipped steps, and on every damage to one byte of W.
+//! The library on the paper's sheets, on those with skipped steps and of version 2, and on every damage to one byte of W.
 
 use model::answers::{answer, Call, SPARE_BYTES};
-use model::builder::{sheet_w, skipped_w};
+use model::builder::{sheet_w, sheet_w_in, skipped_w};
+use model::job::Form;
 use model::library;
 use sheet_tests::calls;
 use std::thread;
@@ -21,10 +22,10 @@ fn the_papers_sheets_are_answered_as_stated() {
     }
 }
 
-/// W whole, with a skipped step, and with all steps skipped.
+/// W in every form, with a skipped step, and with all steps skipped.
 #[test]
 fn every_damage_to_one_byte_of_w_is_answered_as_by_the_brute_force() {
-    for w in [sheet_w(), sheet_w().skip(6), skipped_w()] {
+    for w in Form::ALL.map(sheet_w_in).into_iter().chain([sheet_w().skip(6), skipped_w()]) {
         every_damage_is_answered(&w.bytes);
     }
 }

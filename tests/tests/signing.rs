@@ -1,9 +1,9 @@
-//! The library on jobs under work, by sheet W: a day, skipped steps, openings, damaged memory, copies and threads.
+//! The library on jobs under work, by sheet W: a day, skipped steps, other levels, openings, damaged memory, copies and threads.
 
 use model::answers::{Call, MOST_CREW_BYTES};
-use model::builder::{plain, sheet_w, shorter_w, skipped_w, Draft};
+use model::builder::{job_w_in, lay, plain, rule, sheet_w, sheet_w_in, shorter_w, skipped_w, Draft};
 use model::card::MOST_BYTES;
-use model::job::MOST_STEPS;
+use model::job::{Form, DIFFERENT, MOST_STEPS};
 use model::library::{open, refusals, run, sign};
 use model::signing::{self, Work};
 use sheet_tests::calls;
@@ -28,6 +28,13 @@ fn used(sheet: Draft) -> Work {
     work
 }
 
+/// Signings, each with what it returns.
+fn go_through(work: &mut Work, day: &[(u32, u32, u32)]) {
+    for &(step, person, number) in day {
+        assert_eq!(sign(work, step, person), number, "step {step}, person {person}");
+    }
+}
+
 fn used_w() -> Work {
     used(sheet_w())
 }
@@ -40,7 +47,7 @@ fn noise() -> Work {
 #[test]
 fn a_day_on_w_goes_as_stated() {
     let mut work = w();
-    for (step, person, number) in [
+    let day = [
         (30, 104, REFUSED),
         (30, 102, GRANTED),
         (20, 102, REFUSED),
@@ -58,9 +65,8 @@ fn a_day_on_w_goes_as_stated() {
         (10, 103, REFUSED),
         (10, 102, GRANTED),
         (10, 101, SIGNED),
-    ] {
-        assert_eq!(sign(&mut work, step, person), number, "step {step}, person {person}");
-    }
+    ];
+    go_through(&mut work, &day);
     assert_eq!(work, Work { refusals: 14, signer: [2, 1, 2, 0, 0, 0, 0, 0, 0, 0, 0, 0], ..w() });
     assert_eq!(refusals(&work), 14);
 }
@@ -70,7 +76,7 @@ fn a_day_on_w_with_a_skipped_step_goes_as_stated() {
     let sheet = sheet_w().skip(5);
     let mut work = opened(sheet.clone());
     assert_eq!(work, Work::holding(&sheet.bytes));
-    for (step, person, number) in [
+    let day = [
         (10, 101, UNKNOWN),
         (10, 103, UNKNOWN),
         (10, 105, UNKNOWN),
@@ -82,9 +88,8 @@ fn a_day_on_w_with_a_skipped_step_goes_as_stated() {
         (20, 101, GRANTED),
         (20, 101, SIGNED),
         (10, 101, UNKNOWN),
-    ] {
-        assert_eq!(sign(&mut work, step, person), number, "step {step}, person {person}");
-    }
+    ];
+    go_through(&mut work, &day);
     // The steps that remain stand one after the other.
     assert_eq!(work, Work { refusals: 9, signer: [1, 2, 0, 0, 0, 0, 0, 0, 0, 0, 0, 0], ..Work::holding(&sheet.bytes) });
 }
@@ -98,6 +103,50 @@ fn on_w_with_all_steps_skipped_every_step_is_unknown() {
         assert_eq!(sign(&mut work, step, person), UNKNOWN, "step {step}, person {person}");
     }
     assert_eq!(work, Work { refusals: 5, ..Work::holding(&sheet) });
+}
+
+/// 101 and 102 are of one bench and of two pairs; 10 and 20 are to be by different pairs.
+#[test]
+fn a_day_on_w_with_pairs_goes_as_stated() {
+    let mut job = job_w_in(Form::Second { class_levels: 3 });
+    job.rules.push(rule(DIFFERENT, 3, 0, 3));
+    let sheet = lay(&job);
+    let mut work = opened(sheet.clone());
+    assert_eq!(work, Work::holding(&sheet.bytes));
+    let day = [
+        (30, 104, REFUSED),
+        (30, 101, GRANTED),
+        (20, 101, REFUSED),
+        (10, 102, REFUSED),
+        (10, 103, REFUSED),
+        (20, 102, GRANTED),
+        (10, 102, REFUSED),
+        (10, 101, GRANTED),
+        (10, 101, SIGNED),
+        (10, 105, UNKNOWN),
+    ];
+    go_through(&mut work, &day);
+    assert_eq!(work, Work { refusals: 7, signer: [1, 2, 1, 0, 0, 0, 0, 0, 0, 0, 0, 0], ..Work::holding(&sheet.bytes) });
+}
+
+/// In every form 10 and 20 are by people of one class, 20 and 30 by different people of one shop.
+#[test]
+fn w_is_signed_alike_in_every_form() {
+    for form in Form::ALL {
+        let sheet = sheet_w_in(form);
+        let mut work = opened(sheet.clone());
+        let day = [
+            (30, 104, REFUSED),
+            (30, 102, GRANTED),
+            (20, 102, REFUSED),
+            (20, 103, REFUSED),
+            (20, 101, GRANTED),
+            (10, 103, REFUSED),
+            (10, 102, GRANTED),
+        ];
+        go_through(&mut work, &day);
+        assert_eq!((work.refusals, &work.signer[..3]), (4, &[2, 1, 2][..]), "{form}");
+    }
 }
 
 #[test]
@@ -127,7 +176,7 @@ fn an_opening_refuses_as_the_crew_call_does_and_leaves_every_byte() {
 
 #[test]
 fn every_damage_to_one_byte_of_w_is_opened_as_by_the_model() {
-    for w in [sheet_w(), sheet_w().skip(6)] {
+    for w in Form::ALL.map(sheet_w_in).into_iter().chain([sheet_w().skip(6)]) {
         every_damage_is_opened(&w.bytes);
     }
 }
@@ -145,7 +194,7 @@ fn every_damage_is_opened(w: &[u8]) {
 
 #[test]
 fn every_damage_to_one_byte_held_is_signed_as_by_the_model() {
-    for work in [used_w(), used(sheet_w().skip(5))] {
+    for work in Form::ALL.map(|form| used(sheet_w_in(form))).into_iter().chain([used(sheet_w().skip(5))]) {
         every_damage_is_signed(&work);
     }
 }

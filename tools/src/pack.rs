@@ -1,9 +1,9 @@
 //! From text to cards. What is packed is readable: every fault that the reader knows is found here, with its line.
 
 use crate::line::{self, Line};
-use crate::words;
+use crate::words::{self, Level};
 use model::builder;
-use model::job::{has_limit, Job, Person, Rule, Step, MOST_PEOPLE, MOST_RULES, MOST_STEPS};
+use model::job::{has_limit, Form, Job, Person, Rule, Step, MOST_PEOPLE, MOST_RULES, MOST_STEPS};
 use std::fmt;
 
 #[derive(Debug, PartialEq, Eq)]
@@ -55,11 +55,47 @@ fn add_person(job: &mut Job, person: Person) -> Result<(), String> {
     if job.people.iter().any(|other| other.tag == person.tag) {
         return Err(format!("person {} is there already", person.tag));
     }
-    if let Some(other) = job.people.iter().find(|other| other.bench == person.bench && other.shop != person.shop) {
-        return Err(format!("bench {} is in shop {} already", other.bench, other.shop));
+    for level in job.form.nested_levels() {
+        if let Some(other) = job.people.iter().find(|other| person.puts_in_two(other, level)) {
+            let class = |level: u8| format!("{} {}", words::class_word(level), other.class[usize::from(level) - 1]);
+            return Err(format!("{} is in {} already", class(level), class(level - 1)));
+        }
     }
     job.people.push(person);
     Ok(())
+}
+
+fn add_levels(job: &mut Job, class_levels: u8) -> Result<(), String> {
+    if job.form != Form::First {
+        return Err("the levels are stated already".to_string());
+    }
+    job.form = Form::Second { class_levels };
+    Ok(())
+}
+
+fn no_level(level: u8) -> String {
+    format!("the sheet has no level '{}'", words::class_word(level))
+}
+
+/// A person has a class at each level of the sheet, and at no other.
+fn has_classes(form: Form, classes: &[u16]) -> Result<(), String> {
+    let (wanted, found) = (form.class_levels(), classes.len() as u8);
+    if found < wanted {
+        return Err(format!("'{}' is missing", words::class_word(found + 1)));
+    }
+    if found > wanted {
+        return Err(no_level(wanted + 1));
+    }
+    Ok(())
+}
+
+/// The number that a level has on the sheet.
+fn level_of(form: Form, level: Level) -> Result<u8, String> {
+    match level {
+        Level::Person => Ok(form.person_level()),
+        Level::Class(level) if level > form.class_levels() => Err(no_level(level)),
+        Level::Class(level) => Ok(level),
+    }
 }
 
 fn add_rule(job: &mut Job, rule: Rule) -> Result<(), String> {
@@ -78,22 +114,33 @@ fn add_rule(job: &mut Job, rule: Rule) -> Result<(), String> {
     Ok(())
 }
 
-/// Adds what is no step; all steps are known.
+/// Adds what others may be told by: the levels and the steps.
+fn add_first(job: &mut Job, line: &Line) -> Result<(), String> {
+    match *line {
+        Line::Levels(class_levels) => add_levels(job, class_levels),
+        Line::Step { tag, skipped } => add_step(job, Step { tag, skipped }),
+        _ => Ok(()),
+    }
+}
+
+/// Adds the others; all levels and steps are known.
 fn add(job: &mut Job, line: &Line) -> Result<(), String> {
     match line {
-        Line::Step { .. } => Ok(()),
-        Line::Person { tag, shop, bench, may } => {
+        Line::Levels(_) | Line::Step { .. } => Ok(()),
+        Line::Person { tag, classes, may } => {
+            has_classes(job.form, classes)?;
             let permitted = mask(&job.steps, may)?;
-            add_person(job, Person { tag: *tag, shop: *shop, bench: *bench, permitted })
+            add_person(job, builder::person_in(*tag, classes, permitted))
         }
         Line::Rule { kind, level, limit, steps } => {
+            let level = level_of(job.form, *level)?;
             let scope = mask(&job.steps, steps)?;
-            add_rule(job, Rule { kind: *kind, level: *level, limit: *limit, scope })
+            add_rule(job, Rule { kind: *kind, level, limit: *limit, scope })
         }
     }
 }
 
-/// The job that the text describes. Steps are taken in first, since lines above may name them.
+/// The job that the text describes. Levels and steps are taken in first, since lines above may need them.
 pub fn job(text: &str) -> Result<Job, Fault> {
     let mut job = Job::default();
     let mut lines = vec![];
@@ -102,9 +149,7 @@ pub fn job(text: &str) -> Result<Job, Fault> {
         let Some(line) = line::read(text).map_err(at)? else {
             continue;
         };
-        if let Line::Step { tag, skipped } = line {
-            add_step(&mut job, Step { tag, skipped }).map_err(at)?;
-        }
+        add_first(&mut job, &line).map_err(at)?;
         lines.push((number, line));
     }
     for (number, line) in &lines {
@@ -148,6 +193,33 @@ mod tests {
         assert_eq!(more("rule same shop 10 10"), "line 4: step 10 is named twice");
         assert_eq!(more("rule at-most 1 shop 10"), "line 4: a rule names two steps or more, not 1");
         assert_eq!(more("rule at-most 3 shop 10 20"), "line 4: the limit 3 is above the 2 steps named");
+    }
+
+    #[test]
+    fn faults_of_levels_are_found_with_their_line() {
+        let first = |line: &str| fault(&format!("{line}\nstep 10\nstep 20\n"));
+        assert_eq!(first("levels 2\nlevels 2"), "line 2: the levels are stated already");
+        assert_eq!(first("levels 4"), "line 1: the number of class levels is a number from 1 to 3, not '4'");
+        assert_eq!(first("person 1 shop 1"), "line 1: 'bench' is missing");
+        assert_eq!(first("person 1 shop 1 bench 1 pair 1"), "line 1: the sheet has no level 'pair'");
+        assert_eq!(first("levels 1\nperson 1 shop 1 bench 1"), "line 2: the sheet has no level 'bench'");
+        assert_eq!(first("levels 3\nperson 1 shop 1 bench 1 may 10"), "line 2: 'pair' is missing");
+        assert_eq!(first("person 1 shop 1 bench 1\nlevels 3"), "line 1: 'pair' is missing");
+        assert_eq!(first("rule same pair 10 20"), "line 1: the sheet has no level 'pair'");
+        assert_eq!(first("levels 1\nrule same bench 10 20"), "line 2: the sheet has no level 'bench'");
+        let three = |line: &str| first(&format!("levels 3\nperson 1 shop 1 bench 2 pair 5\n{line}"));
+        assert_eq!(three("person 2 shop 1 bench 3 pair 5"), "line 3: pair 5 is in bench 2 already");
+        assert_eq!(three("person 2 shop 3 bench 2 pair 6"), "line 3: bench 2 is in shop 1 already");
+        assert_eq!(three("person 2 shop 3 bench 2 pair 5"), "line 3: bench 2 is in shop 1 already");
+    }
+
+    #[test]
+    fn levels_may_be_stated_anywhere() {
+        let lines = ["person 1 shop 1 may 10", "step 10", "step 20", "rule same person 10 20"];
+        let packed = |at: usize| pack(&[&lines[..at], &["levels 1"], &lines[at..]].concat().join("\n"));
+        let sheet = packed(0).expect("a good text");
+        assert_eq!((sheet[1], sheet[12], sheet[16 * 4 + 4]), (2, 1, 2));
+        assert!((1..=4).all(|at| packed(at).as_ref() == Ok(&sheet)));
     }
 
     #[test]

@@ -1,36 +1,51 @@
 //! The words for rule kinds and levels, and for a step that is skipped.
 
-use model::job::{AT_LEAST, AT_MOST, BY_BENCH, BY_PERSON, BY_SHOP, DIFFERENT, SAME};
+use model::job::{Form, AT_LEAST, AT_MOST, DIFFERENT, MOST_CLASS_LEVELS, SAME};
 
 type Named = (u8, &'static str);
 
 pub const KINDS: [Named; 4] = [(SAME, "same"), (DIFFERENT, "different"), (AT_MOST, "at-most"), (AT_LEAST, "at-least")];
 
-pub const LEVELS: [Named; 3] = [(BY_SHOP, "shop"), (BY_BENCH, "bench"), (BY_PERSON, "person")];
+/// The class levels, topmost first. A sheet has the first of them.
+pub const CLASSES: [&str; MOST_CLASS_LEVELS] = ["shop", "bench", "pair"];
+
+/// The level after the last class level.
+pub const PERSON: &str = "person";
 
 pub const SKIPPED: &str = "skipped";
 
-fn number(named: &[Named], word: &str) -> Option<u8> {
-    named.iter().find(|(_, known)| *known == word).map(|(number, _)| *number)
-}
-
-/// The word for a number that a job may have.
-fn word(named: &[Named], number: u8) -> &'static str {
-    named.iter().find(|(known, _)| *known == number).expect("a kind or level of a job").1
+/// A level by its word, before it is known how many the sheet has.
+#[derive(Clone, Copy, Debug, PartialEq, Eq)]
+pub enum Level {
+    Class(u8),
+    Person,
 }
 
 pub fn kind(word: &str) -> Option<u8> {
-    number(&KINDS, word)
+    KINDS.iter().find(|(_, known)| *known == word).map(|(number, _)| *number)
 }
 
-pub fn level(word: &str) -> Option<u8> {
-    number(&LEVELS, word)
+pub fn level(word: &str) -> Option<Level> {
+    if word == PERSON {
+        return Some(Level::Person);
+    }
+    CLASSES.iter().position(|known| *known == word).map(|at| Level::Class(at as u8 + 1))
 }
 
+/// The word for a kind that a job may have.
 pub fn kind_word(kind: u8) -> &'static str {
-    word(&KINDS, kind)
+    KINDS.iter().find(|(known, _)| *known == kind).expect("a kind of a job").1
 }
 
-pub fn level_word(level: u8) -> &'static str {
-    word(&LEVELS, level)
+/// The word for a class level.
+pub fn class_word(level: u8) -> &'static str {
+    CLASSES[usize::from(level) - 1]
+}
+
+/// The word for a level that a rule of such a sheet may name.
+pub fn level_word(form: Form, level: u8) -> &'static str {
+    if level == form.person_level() {
+        return PERSON;
+    }
+    class_word(level)
 }

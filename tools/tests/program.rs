@@ -1,6 +1,7 @@
 //! The program itself, from its input to its output.
 
-use model::builder::{one_by_one, sheet_w, shorter_w};
+use model::builder::{one_by_one, sheet_w, sheet_w_in, shorter_w};
+use model::job::Form;
 use std::io::Write;
 use std::process::{Command, Output, Stdio};
 
@@ -20,7 +21,8 @@ fn is_in_lines(text: &[u8]) -> bool {
 #[test]
 fn what_is_shown_ends_its_last_line() {
     // The last line is a rule's, a step's, a skipped step's, and a rule's again.
-    for sheet in [sheet_w(), one_by_one(1), one_by_one(1).skip(2), shorter_w()] {
+    let sheets = [sheet_w(), one_by_one(1), one_by_one(1).skip(2), shorter_w()];
+    for sheet in sheets.into_iter().chain(Form::ALL.map(sheet_w_in)) {
         let shown = run("show", &sheet.bytes);
         assert!(shown.status.success() && shown.stderr.is_empty(), "{shown:?}");
         assert!(is_in_lines(&shown.stdout), "{shown:?}");

@@ -1,14 +1,26 @@
 //! Text and cards, there and back.
 
-use model::builder::{lay, one_by_one, sheet_w, shorter_w, skipped_w, w_and, Draft};
+use model::builder::{job_w_in, lay, one_by_one, rule, sheet_w, shorter_w, skipped_w, w_and, Draft};
 use model::garble::sample;
+use model::job::{Form, Job, DIFFERENT};
 use model::jobs::{good_job, laid};
 use model::random::Random;
 use model::reader::read;
 use sheet::pack::pack;
 use sheet::show::{show, text};
 
-fn examples() -> [(&'static str, Draft); 10] {
+fn w_with(class_levels: u8) -> Job {
+    job_w_in(Form::Second { class_levels })
+}
+
+/// The first two steps by different pairs of one bench.
+fn w_with_pairs() -> Job {
+    let mut job = w_with(3);
+    job.rules.push(rule(DIFFERENT, 3, 0, 3));
+    job
+}
+
+fn examples() -> [(&'static str, Draft); 12] {
     [
         (include_str!("../examples/w.txt"), sheet_w()),
         (include_str!("../examples/trial-3.txt"), sheet_w().word(3, 12, 0)),
@@ -20,6 +32,8 @@ fn examples() -> [(&'static str, Draft); 10] {
         (include_str!("../examples/trial-9.txt"), shorter_w()),
         (include_str!("../examples/skipped.txt"), sheet_w().skip(5)),
         (include_str!("../examples/all-skipped.txt"), skipped_w()),
+        (include_str!("../examples/shops.txt"), lay(&w_with(1))),
+        (include_str!("../examples/pairs.txt"), lay(&w_with_pairs())),
     ]
 }
 
@@ -43,14 +57,17 @@ fn the_examples_are_shown_as_they_are_written() {
 fn what_is_shown_packs_to_the_same_job() {
     let mut random = Random::new(9);
     let mut skipped = 0;
+    let mut met = vec![];
     for _ in 0..2_000 {
         let job = good_job(&mut random);
+        met.push(job.form);
         skipped += job.steps.iter().filter(|step| step.skipped).count();
         let shown = show(&laid(&mut random, &job).bytes).expect("a good sheet");
         assert_eq!(shown, text(&job));
         assert_eq!(pack(&shown), Ok(lay(&job).bytes));
     }
     assert!(skipped > 0);
+    assert!(Form::ALL.iter().all(|form| met.contains(form)));
 }
 
 #[test]

@@ -1,5 +1,6 @@
 //! Small changes of a job. Each leaves a job that the reader takes.
 
+use model::classes::Classes;
 use model::job::{has_limit, Job, Rule, AT_LEAST, AT_MOST, DIFFERENT, MOST_PEOPLE, MOST_RULES, SAME};
 use model::jobs::{any_count, any_level, random_rule};
 use model::random::Random;
@@ -23,7 +24,7 @@ const CHANGES: [Change; 16] = [
     copy_permissions,
     turn_step,
     move_person,
-    move_bench,
+    move_class,
     swap_people,
 ];
 
@@ -44,7 +45,7 @@ fn any_rule<'a>(random: &mut Random, job: &'a mut Job) -> Option<&'a mut Rule> {
 
 fn add_rule(random: &mut Random, job: &mut Job) {
     if job.rules.len() < MOST_RULES && job.steps.len() > 1 {
-        job.rules.push(random_rule(random, job.steps.len()));
+        job.rules.push(random_rule(random, job.form, job.steps.len()));
     }
 }
 
@@ -82,8 +83,9 @@ fn change_kind(random: &mut Random, job: &mut Job) {
 }
 
 fn change_level(random: &mut Random, job: &mut Job) {
+    let form = job.form;
     if let Some(rule) = any_rule(random, job) {
-        rule.level = any_level(random);
+        rule.level = any_level(random, form);
     }
 }
 
@@ -127,46 +129,65 @@ fn copy_permissions(random: &mut Random, job: &mut Job) {
     job.people[to].permitted = job.people[from].permitted;
 }
 
-/// One step more, or one less, for everybody of a bench.
+/// The place of the last class level among somebody's classes.
+fn last_level(job: &Job) -> usize {
+    usize::from(job.form.class_levels()) - 1
+}
+
+/// Everybody of some class of the last level, by their places in crew order.
+fn any_class(random: &mut Random, job: &Job) -> Vec<usize> {
+    let last = last_level(job);
+    let class = job.people[random.below(job.people.len())].class[last];
+    (0..job.people.len()).filter(|&person| job.people[person].class[last] == class).collect()
+}
+
+/// One step more, or one less, for everybody of a class.
 fn turn_step(random: &mut Random, job: &mut Job) {
-    let bench = job.people[random.below(job.people.len())].bench;
+    let members = any_class(random, job);
     let bit = 1 << random.below(job.steps.len());
     let give = random.once_in(2);
-    for person in job.people.iter_mut().filter(|person| person.bench == bench) {
-        person.permitted = if give { person.permitted | bit } else { person.permitted & !bit };
+    for person in members {
+        let permitted = &mut job.people[person].permitted;
+        *permitted = if give { *permitted | bit } else { *permitted & !bit };
     }
 }
 
-/// A bench number that nobody has.
-fn new_bench(job: &Job) -> u16 {
-    let is_free = |bench: &u16| job.people.iter().all(|person| person.bench != *bench);
+/// A number that no class of the level has.
+fn new_class(job: &Job, at: usize) -> u16 {
+    let is_free = |class: &u16| job.people.iter().all(|person| person.class[at] != *class);
     (1..=MOST_PEOPLE as u16 + 1).find(is_free).expect("more numbers than people")
 }
 
-/// A shop that is there, or now and then a new one.
-fn any_shop(random: &mut Random, job: &Job) -> u16 {
-    if random.once_in(4) {
-        let is_free = |shop: &u16| job.people.iter().all(|person| person.shop != *shop);
-        return (1..=MOST_PEOPLE as u16 + 1).find(is_free).expect("more numbers than people");
-    }
-    job.people[random.below(job.people.len())].shop
+/// Classes above the last level that are there, or now and then new ones from some level on.
+fn any_above(random: &mut Random, job: &Job) -> Classes {
+    let last = last_level(job);
+    let from = match (random.once_in(4), last) {
+        (false, _) => last,
+        (true, ..=1) => 0,
+        (true, _) => random.below(last),
+    };
+    let mut class = if from == 0 { Classes::default() } else { job.people[random.below(job.people.len())].class };
+    (from..last).for_each(|at| class[at] = new_class(job, at));
+    class
 }
 
-/// Somebody to the bench of another, and so to its shop, or to a bench of their own.
+/// Somebody to the class of another, and so to those above it, or to a class of their own.
 fn move_person(random: &mut Random, job: &mut Job) {
-    let to = job.people[random.below(job.people.len())].clone();
-    let (shop, bench) = if random.once_in(3) { (any_shop(random, job), new_bench(job)) } else { (to.shop, to.bench) };
+    let mut class = job.people[random.below(job.people.len())].class;
+    if random.once_in(3) {
+        class = any_above(random, job);
+        class[last_level(job)] = new_class(job, last_level(job));
+    }
     let person = random.below(job.people.len());
-    job.people[person].shop = shop;
-    job.people[person].bench = bench;
+    job.people[person].class = class;
 }
 
-/// A whole bench to another shop.
-fn move_bench(random: &mut Random, job: &mut Job) {
-    let bench = job.people[random.below(job.people.len())].bench;
-    let shop = any_shop(random, job);
-    for person in job.people.iter_mut().filter(|person| person.bench == bench) {
-        person.shop = shop;
+/// A whole class of the last level to other classes above it.
+fn move_class(random: &mut Random, job: &mut Job) {
+    let members = any_class(random, job);
+    let (above, last) = (any_above(random, job), last_level(job));
+    for person in members {
+        job.people[person].class[..last].copy_from_slice(&above[..last]);
     }
 }
 
@@ -189,6 +210,7 @@ pub fn mutated(random: &mut Random, job: &Job) -> Job {
 mod tests {
     use super::*;
     use model::builder::lay;
+    use model::job::Form;
     use model::jobs::{good_job, job_of, small_job};
     use model::reader::read;
 
@@ -207,7 +229,7 @@ mod tests {
     #[test]
     fn each_change_changes_something_some_time() {
         let mut random = Random::new(8);
-        let job = job_of(&mut random, 20, 8, 12);
+        let job = job_of(&mut random, Form::Second { class_levels: 3 }, 20, 8, 12);
         for change in CHANGES {
             let changes = |_| {
                 let mut changed = job.clone();

@@ -1,6 +1,6 @@
 //! A job as a logic program: facts about the sheet, and the rules as counts. No step of the job is skipped.
 
-use model::job::{steps_of, Job, BY_BENCH, BY_PERSON, BY_SHOP, MOST_PEOPLE, MOST_STEPS};
+use model::job::{steps_of, Job, MOST_PEOPLE, MOST_STEPS};
 
 /// Kinds and levels have their numbers on the sheet.
 const PLANS: &str = "\
@@ -26,11 +26,12 @@ fn facts(job: &Job) -> String {
         facts += &format!("step({step}).\n");
         facts.extend(job.permitted(step).map(|person| format!("may({step}, {person}).\n")));
     }
-    for (at, person) in job.people.iter().enumerate() {
-        // A tag may be above clingo's numbers: the class of a person is the place.
-        for (level, class) in [(BY_SHOP, person.shop.into()), (BY_BENCH, person.bench.into()), (BY_PERSON, at)] {
-            facts += &format!("class({level}, {at}, {class}).\n");
+    for at in 0..job.people.len() {
+        for level in 1..=job.form.class_levels() {
+            facts += &format!("class({level}, {at}, {}).\n", job.class(at, level));
         }
+        // A tag may be above clingo's numbers: the class of a person is the place.
+        facts += &format!("class({}, {at}, {at}).\n", job.form.person_level());
     }
     for (at, rule) in job.rules.iter().enumerate() {
         facts += &format!("rule({at}, {}, {}, {}).\n", rule.kind, rule.level, rule.limit);

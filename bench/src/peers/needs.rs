@@ -4,7 +4,7 @@
 //! for each rule that counts one for each class. The appendix has at-most rules for people only; here they are for any
 //! level, and at-least rules are done alike. No step of the job is skipped.
 
-use model::job::{steps_of, Job, Rule, AT_MOST, BY_PERSON, DIFFERENT, SAME};
+use model::job::{steps_of, Job, Rule, AT_MOST, DIFFERENT, SAME};
 use std::collections::BTreeMap;
 
 /// Variables are numbered from 1.
@@ -76,11 +76,11 @@ impl Needs {
         }
         let mut members: BTreeMap<u32, Vec<Var>> = BTreeMap::new();
         for (person, var) in &self.does[step] {
-            members.entry(job.people[*person].class(level)).or_default().push(*var);
+            members.entry(job.class(*person, level)).or_default().push(*var);
         }
         let mut vars = BTreeMap::new();
         for (class, of) in members {
-            if level == BY_PERSON {
+            if level == job.form.person_level() {
                 vars.insert(class, of[0]);
                 continue;
             }

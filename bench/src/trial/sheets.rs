@@ -1,7 +1,7 @@
 //! Sheets of a shop of five: people, permissions and rules at random.
 
 use crate::sign::has_plan;
-use model::job::{Job, MOST_RULES};
+use model::job::{Form, Job, MOST_RULES};
 use model::jobs::{planned_job, random_rule};
 use model::random::Random;
 use std::ops::RangeInclusive;
@@ -17,7 +17,7 @@ fn random_of(number: u64, steps: usize) -> Random {
 /// A few rules of any kind, all of which some plan meets.
 fn planned(random: &mut Random, steps: usize) -> Job {
     let rules = random.within(2, 6);
-    planned_job(random, PEOPLE, steps, rules)
+    planned_job(random, Form::First, PEOPLE, steps, rules)
 }
 
 pub fn with_a_plan(number: u64, steps: usize) -> Job {
@@ -30,7 +30,7 @@ pub fn without_a_plan(number: u64, steps: usize) -> Job {
     loop {
         let mut job = planned(random, steps);
         while job.rules.len() < MOST_RULES {
-            job.rules.push(random_rule(random, steps));
+            job.rules.push(random_rule(random, job.form, steps));
             if !has_plan(&job) {
                 return job;
             }

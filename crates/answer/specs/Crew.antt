@@ -7,6 +7,7 @@ use lib.ListN.{length, drop}
 use Rattle.remaining.specs.Remaining.{stepsLeft, jobLeft}
 use Rattle.sheet.specs.Read.{Read, job, fault, readSheet}
 use Rattle.sheet.specs.declared.SheetJob as sheet
+use Rattle.workflow.specs.Problem.{Job}
 use Rattle.workflow.specs.First.{Found, found, nothing, firstPlan}
 use Rattle.instance.specs.Instance.{instanceOf, mayOf, crewTags}
 use Rattle.card.specs.Refusals.{shortFault, planFault}
@@ -18,11 +19,14 @@ planned j steps buffer (found plan) =
     record { number = 0; bytes = written (crewTags (j .«step_tag») (j .«person_tag») plan steps) ++ drop (8 * steps) buffer }
 planned j steps buffer nothing = refused planFault 0 buffer
 
--- of a job with these counts: "1 .. 8 × steps for a crew", then the first valid plan
+-- of a job that poses a problem over so many steps: "1 .. 8 × steps for a crew", then the first valid plan
+abbrev pub crewFor : Job → ℕ → sheet.SheetJob → List ℕ → Outcome
+crewFor problem steps j buffer =
+    cond (ltb (length buffer) (8 * steps)) (refused shortFault 0 buffer) (planned j steps buffer (firstPlan problem (mayOf j)))
+
+-- of a job with these counts
 unfoldable pub crewOf : ℕ → ℕ → ℕ → sheet.SheetJob → List ℕ → Outcome
-crewOf people steps rules j buffer =
-    cond (ltb (length buffer) (8 * steps)) (refused shortFault 0 buffer)
-    (planned j steps buffer (firstPlan (instanceOf people steps rules j) (mayOf j)))
+crewOf people steps rules j buffer = crewFor (instanceOf people steps rules j) steps j buffer
 
 -- of what was read: "Plan, crew bytes .. and buffer length cover the steps that remain." "A refusal of the reader is passed up with its card."
 unfoldable pub crewRead : List ℕ → List ℕ → Read → Outcome

@@ -1,3 +1,5 @@
+pub mod Copied
+pub mod ColumnLaws
 pub mod Below
 pub mod Counting
 pub mod Ones

@@ -1,3 +1,5 @@
+pub mod Sizes
+pub mod Columns
 pub mod Below
 pub mod Word
 pub mod Set

@@ -1,4 +1,5 @@
 // Words of a byte slice, low byte first, and words as sets.
+pub mod columns;
 pub mod set;
 pub mod sizes;
 pub mod slots;

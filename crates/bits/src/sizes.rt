@@ -6,8 +6,11 @@ pub const MOST_STEPS: usize = 12;
 
 pub const MOST_RULES: usize = 64;
 
-// Shop, bench and person.
-pub const MOST_LEVELS: usize = 3;
+// The class levels above the person: "1 to 3".
+pub const MOST_CLASS_LEVELS: usize = 3;
+
+// With the person, who is the last level.
+pub const MOST_LEVELS: usize = MOST_CLASS_LEVELS + 1;
 
 // A header, and a card for each person, step and rule.
 pub const MOST_CARDS: usize = 1 + MOST_PEOPLE + MOST_STEPS + MOST_RULES;
@@ -26,8 +29,14 @@ pub type CardMarks = [bool; MOST_CARDS];
 // The cards of a chain, in order.
 pub type CardList = [u8; MOST_CHAIN];
 
-// A word for each person, as the shop or the bench.
+// A word for each person, as the class of a level.
 pub type PersonWords = [u16; MOST_PEOPLE];
+
+// A class for each person at each class level, at `(level - 1) * MOST_PEOPLE + person`.
+pub const CLASS_WORDS: usize = MOST_CLASS_LEVELS * MOST_PEOPLE;
+
+// The class on the card of each person, at each class level; zero where the level is not used.
+pub type ClassWords = [u16; CLASS_WORDS];
 
 // A byte for each rule, as the kind, the limit or the count.
 pub type RuleBytes = [u8; MOST_RULES];
@@ -37,6 +46,9 @@ pub const SLOTS: usize = 1024;
 
 // A person for each slot, counted from 1.
 pub type SlotPeople = [u8; SLOTS];
+
+// An entry for each level, at the level; entry 0 is not used.
+pub const LEVEL_ENTRIES: usize = MOST_LEVELS + 1;
 
 // An entry for each person at each level, at `(level - 1) * MOST_PEOPLE + person`.
 pub const CLASS_ENTRIES: usize = MOST_LEVELS * MOST_PEOPLE;

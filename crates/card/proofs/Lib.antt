@@ -1,3 +1,4 @@
 pub mod ByKind
+pub mod Levels
 pub mod Limits
 pub mod Zeros

@@ -42,9 +42,10 @@ countFault = 9
 abbrev pub tagFault : ℕ
 tagFault = 10
 
--- "11: a bench in two shops. The first person whose bench stood earlier with another shop."
-abbrev pub benchFault : ℕ
-benchFault = 11
+-- "11: a bench in two shops. The first person whose bench stood earlier with another shop." "Refusal 11 covers any class lying in two
+-- classes of the level above (the first person in crew order to show it)"
+abbrev pub classFault : ℕ
+classFault = 11
 
 -- "12: a card on no chain. The lowest."
 abbrev pub looseFault : ℕ

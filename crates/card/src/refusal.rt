@@ -30,8 +30,8 @@ pub const COUNT_FAULT: u32 = 9;
 // A tag is on two people or on two steps. The first card along the chain whose tag stood earlier on it.
 pub const TAG_FAULT: u32 = 10;
 
-// A bench is in two shops. The first person whose bench stood earlier with another shop.
-pub const BENCH_FAULT: u32 = 11;
+// A class lies in two classes of the level above. The first person in crew order whose class stood earlier with another above.
+pub const CLASS_FAULT: u32 = 11;
 
 // A card is on no chain. The lowest.
 pub const LOOSE_FAULT: u32 = 12;

@@ -5,6 +5,7 @@ use mathlib.Core.Path.{_≡_}
 use Prim.Native.Nat.{ℕ, _^_, _≤_, _<_}
 use lib.ListN.{length}
 use Rattle.bits.specs.Word.{hasBit}
+use Rattle.bits.specs.Sizes.{mostLevels, classEntries}
 use Rattle.workflow.specs.Problem.{Job}
 use Rattle.pattern.specs.declared.Size.{Size}
 use Rattle.pattern.specs.Rule.{levelIn, scopeIn}
@@ -17,9 +18,9 @@ pub record Crowd (people : ℕ) (c : ℕ → ℕ) (p r : ℕ) : Type 0 where
 
 -- a level of the table of classes
 pub record OneLevel (crowd : List ℕ) (level : ℕ) : Type 0 where
-  pub sized : length crowd ≡ 192
+  pub sized : length crowd ≡ classEntries
   pub from : 1 ≤ level
-  pub to : level ≤ 3
+  pub to : level ≤ mostLevels
 
 -- c gives each of so many people the mask of its class
 pub record Grouped (people : ℕ) (c : ℕ → ℕ) : Type 0 where

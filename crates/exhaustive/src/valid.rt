@@ -55,7 +55,7 @@ pub fn first_broken(job: SheetJob, rules: usize, plan: &Plan) -> usize
     let limit = job.rule_limit;
     let scope = job.rule_scope;
     for i in 0..rules {
-        let count = rule_count(&job.shop, &job.bench, level[i], scope[i], plan);
+        let count = rule_count(&job.class, job.levels, level[i], scope[i], plan);
         let left = small::size(scope[i]);
         if !is_met(kind[i], limit[i], left, count) {
             return i;

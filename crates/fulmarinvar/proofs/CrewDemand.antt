@@ -58,7 +58,7 @@ module _ (s buffer : List ℕ) (number : ℕ) (left : List ℕ) (p : CrewPromise
     n = length (stepsLeft s steps)
 
     exists : SatisfiableLeft marked permitted ↔ Satisfiable posed may
-    exists = satisfiable-in s people steps rules permitted may (permits-left s people steps rules)
+    exists = satisfiable-in s people steps rules e permitted may (permits-left s people steps rules)
 
     crew-is : crewAnswer s buffer ≡ crewOf (length people) n (length rules) (jobLeft s people steps rules) buffer
     unfolding crewRead
@@ -81,9 +81,9 @@ module _ (s buffer : List ℕ) (number : ℕ) (left : List ℕ) (p : CrewPromise
           planned = (λ x. w, λ x. z);
           unplanned = (λ x. absurd (omega arith), λ x. absurd (x w));
           unchanged = λ x. absurd (omega arith);
-          exists-first = λ x. first-back s people steps rules permitted may (permits-left s people steps rules) (planOf xs) v;
+          exists-first = λ x. first-back s people steps rules e permitted may (permits-left s people steps rules) (planOf xs) v;
           first = λ π f.
-              let g = first-plan-given posed may (planLeft (keptAt s steps) π) (first-in s people steps rules permitted may (permits-left s people steps rules) π .0 f) in
+              let g = first-plan-given posed may (planLeft (keptAt s steps) π) (first-in s people steps rules e permitted may (permits-left s people steps rules) π .0 f) in
               let same : xs ≡ listOf n (planLeft (keptAt s steps) π) = found-same d g in
               crew-bytes _ o
               ∙ ap (λ (ys : List ℕ). written (crewTags (sheet .«step_tag») (sheet .«person_tag») ys n) ++ drop (8 * n) buffer) same;

@@ -3,10 +3,10 @@ use mathlib.Core.List.{List, [], _∷_}
 use mathlib.Core.Path.{refl}
 use Rattle.bits.specs.Below.{all, any, count, first}
 use Rattle.bits.specs.Member.{member}
-use Rattle.card.specs.Fields.{headerOk, personOk, stepOk, ruleOk, limitOk, fieldsOk}
+use Rattle.card.specs.Fields.{formOk, headerOk, classLevels, classFieldOk, personOk, stepOk, ruleOk, limitOk, fieldsOk}
 use Rattle.chain.specs.Walk.{walk, firstFault}
 use Rattle.sheet.specs.Read.{readSheet, readPeople, peopleRead, stepsRead, checked, firstClash, firstLate, firstLoose}
-use Rattle.sheet.specs.Answer.{jobOf, table}
+use Rattle.sheet.specs.Answer.{jobOf, classColumns, table}
 use Rattle.remaining.specs.Kept.{keptBelow, gather}
 use Rattle.remaining.specs.Remaining.{jobOver}
 use Rattle.workflow.specs.Problem.{opens, distinct, authorisedTest, eligibleTest, valid}
@@ -24,8 +24,8 @@ returned-history (opening s n ∷ h) r = (after h, returned-history h (r .1), re
 returned-history (signing a b n ∷ h) r = (after h, returned-history h (r .1), record { returned = r .0; job-left = refl })
 
 pub day-goes : DayGoes
-unfolding all any count first headerOk personOk stepOk ruleOk limitOk fieldsOk walk member firstFault readSheet readPeople peopleRead stepsRead checked firstClash firstLate
-    firstLoose jobOf table keptBelow gather jobOver opens distinct authorisedTest eligibleTest valid firstPlan firstOf tryAll ifPlan openRead placeOf decided signOf signRead held opened
+unfolding all any count first formOk headerOk classLevels classFieldOk personOk stepOk ruleOk limitOk fieldsOk walk member firstFault readSheet readPeople peopleRead stepsRead checked firstClash firstLate
+    firstLoose jobOf classColumns table keptBelow gather jobOver opens distinct authorisedTest eligibleTest valid firstPlan firstOf tryAll ifPlan openRead placeOf decided signOf signRead held opened
 day-goes =
     record {
       history = returned-history day (refl, (refl, (refl, (refl, (refl, (refl, (refl, (refl, (refl, tt)))))))));

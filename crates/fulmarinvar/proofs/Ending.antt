@@ -37,7 +37,7 @@ zero-card s f c (faults.wrong-field e w) l = absurd (omega arith)
 zero-card s f c (faults.none-along e w) l = absurd (omega arith)
 zero-card s f c (faults.too-many e w) l = absurd (omega arith)
 zero-card s f c (faults.tag-twice e w) l = absurd (omega arith)
-zero-card s f c (faults.bench-in-two-shops e w) l = absurd (omega arith)
+zero-card s f c (faults.class-in-two e w) l = absurd (omega arith)
 zero-card s f c (faults.on-no-chain e w) l = absurd (omega arith)
 
 -- a refusal of the reader

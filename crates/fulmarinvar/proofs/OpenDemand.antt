@@ -5,7 +5,7 @@ use mathlib.Core.Path.{_≡_, refl, sym, _∙_, ap, subst}
 use Prim.Native.Nat.{ℕ, _+_, _*_}
 use native.Mathlib.Omega.{arith}
 use Rattle.sheet.proofs.Refusals.{refusal-is-fault, fault-range}
-use Rattle.sheet.specs.Read.{job}
+use Rattle.sheet.specs.Read.{job, readSheet}
 use Rattle.workflow.specs.Problem.{Satisfiable}
 use Rattle.workflow.specs.Skipped.{SatisfiableLeft}
 use Rattle.instance.specs.Instance.{instanceIn, mayDo}
@@ -30,8 +30,8 @@ use Rattle.fulmarinvar.proofs.Stands.{few-steps}
 abbrev Planned : List ℕ → List ℕ → List ℕ → List ℕ → Type 0
 Planned s people steps rules = Satisfiable (instanceIn s people steps rules) (mayDo s people steps rules)
 
-exists : (s people steps rules : List ℕ) → SatisfiableLeft (markedIn s people steps rules) (permittedIn s people) ↔ Planned s people steps rules
-exists s people steps rules = satisfiable-in s people steps rules (permittedIn s people) (mayDo s people steps rules) (permits-left s people steps rules)
+exists : (s people steps rules : List ℕ) → readSheet s ≡ job people steps rules → SatisfiableLeft (markedIn s people steps rules) (permittedIn s people) ↔ Planned s people steps rules
+exists s people steps rules read = satisfiable-in s people steps rules read (permittedIn s people) (mayDo s people steps rules) (permits-left s people steps rules)
 
 module _ (s : List ℕ) (j : JobState) (number : ℕ) (left : JobState) (o : OpenPromise j s number left) where
   case-opens : OpenCase s j (openAnswer j s) → Opens s j number left
@@ -53,12 +53,12 @@ module _ (s : List ℕ) (j : JobState) (number : ℕ) (left : JobState) (o : Ope
       record {
         as-crew = λ buffer m bytes l w.
             let k = few-steps s people steps rules d in
-            let c = crew-demand s buffer people steps rules m bytes w d (omega arith) .unplanned .1 (λ v. fails (exists s people steps rules .0 v)) in
+            let c = crew-demand s buffer people steps rules m bytes w d (omega arith) .unplanned .1 (λ v. fails (exists s people steps rules d .0 v)) in
             omega arith;
         outcome = inr (subst (NumberedRefusal s) (sym n) x, omega arith);
         passed-up = λ f c r. absurd (not-refused s d f c r);
-        planned = λ p t r q. (λ z. absurd (omega arith), λ w. absurd (fails (same-cards s q d (Planned s) (exists s p t r .0 w))));
-        unplanned = λ p t r q. (λ z w. fails (same-cards s q d (Planned s) (exists s p t r .0 w)), λ w. omega arith);
+        planned = λ p t r q. (λ z. absurd (omega arith), λ w. absurd (fails (same-cards s q d (Planned s) (exists s p t r q .0 w))));
+        unplanned = λ p t r q. (λ z w. fails (same-cards s q d (Planned s) (exists s p t r q .0 w)), λ w. omega arith);
         untouched = λ z. o .job-left ∙ ap (λ (y : Answered). y .job) e;
         cleared = λ z. absurd (omega arith);
       }
@@ -67,12 +67,12 @@ module _ (s : List ℕ) (j : JobState) (number : ℕ) (left : JobState) (o : Ope
       record {
         as-crew = λ buffer m bytes l w.
             let k = few-steps s people steps rules d in
-            let c = crew-demand s buffer people steps rules m bytes w d (omega arith) .planned .1 (exists s people steps rules .1 plan) in
+            let c = crew-demand s buffer people steps rules m bytes w d (omega arith) .planned .1 (exists s people steps rules d .1 plan) in
             omega arith;
         outcome = inl n;
         passed-up = λ f c r. absurd (not-refused s d f c r);
-        planned = λ p t r q. (λ z. exists s p t r .1 (same-cards s d q (Planned s) plan), λ w. n);
-        unplanned = λ p t r q. (λ z. absurd (omega arith), λ w. absurd (w (exists s p t r .1 (same-cards s d q (Planned s) plan))));
+        planned = λ p t r q. (λ z. exists s p t r q .1 (same-cards s d q (Planned s) plan), λ w. n);
+        unplanned = λ p t r q. (λ z. absurd (omega arith), λ w. absurd (w (exists s p t r q .1 (same-cards s d q (Planned s) plan))));
         untouched = λ z. absurd (z n);
         cleared = λ z. o .job-left ∙ ap (λ (y : Answered). y .job) e;
       }

@@ -8,7 +8,7 @@ use Rattle.bits.specs.Word.{byteAt, longAt}
 use Rattle.card.specs.Fields.{tagOf}
 use Rattle.sheet.specs.Faults.{cardsIn}
 use Rattle.sheet.proofs.Passes.{sheet-passes}
-use Rattle.sheet.proofs.Readable.{readable-job}
+use Rattle.sheet.proofs.Readable.{readable-job, sheet-levels}
 use Rattle.remaining.proofs.Laws.{steps-left-length, steps-left-at, step-tag-left, person-tag-left}
 use Rattle.remaining.specs.Remaining.{jobOver, keptAt, stepsLeft, jobLeft}
 use Rattle.workflow.specs.First.{listOf}
@@ -77,7 +77,7 @@ spare-reads s buffer people steps rules e bytes t k away g i l =
 pub tags-determine : demands.TagsDetermine
 unfolding jobOver
 tags-determine s people steps rules e bytes k m xs ys a b g h same =
-    let r = readable-job s people steps rules (cardsIn s) (sheet-passes s people steps rules e .rest) in
+    let r = readable-job s people steps rules (cardsIn s) (sheet-passes s people steps rules e .rest) (sheet-levels s people steps rules e) in
     let tags = jobLeft s people steps rules .«person_tag» in
     let small = person-small s people steps rules bytes in
     let xs-in = group-within g in

@@ -15,6 +15,7 @@ use Rattle.workflow.proofs.Counts.{distinct-cong}
 use Rattle.workflow.proofs.Leaves.{class-left}
 use Rattle.workflow.proofs.Lists.{planOf-listOf}
 use Rattle.workflow.proofs.Different.{distinct-different}
+use Rattle.sheet.specs.Read.{job, readSheet}
 use Rattle.instance.specs.Counts.{CountsOf}
 use Rattle.instance.specs.Instance.{instanceIn}
 use Rattle.instance.specs.Marked.{ruleOn, markedIn}
@@ -23,13 +24,13 @@ use Rattle.fulmarinvar.specs.RuleCounts.{RuleLine, GivesLeft, LinesOfRul
 use Rattle.fulmarinvar.proofs.SheetDemand.{steps-remain}
 
 -- a count of the instance is that over the steps left
-count-is : (s people steps rules : List ℕ) (π : Plan) (counts : List ℕ) → GivesLeft s people steps π
+count-is : (s people steps rules : List ℕ) → readSheet s ≡ job people steps rules → (π : Plan) (counts : List ℕ) → GivesLeft s people steps π
     → CountsOf (instanceIn s people steps rules) (planLeft (keptAt s steps) π) (length rules) counts
     → (i : ℕ) → i < length rules → getD counts i 0 ≡ countLeft (markedIn s people steps rules) (ruleOn s (getD rules i 0)) π
-count-is s people steps rules π counts within w i l =
+count-is s people steps rules e π counts within w i l =
     let remain = steps-remain s steps in
     w .each i l
-    ∙ class-left (instance-leaves s people steps rules) i l π (λ k b. within (keptAt s steps k) (remain .on-chain k b) (remain .remains k b))
+    ∙ class-left (instance-leaves s people steps rules e) i l π (λ k b. within (keptAt s steps k) (remain .on-chain k b) (remain .remains k b))
 
 pub lines-of-rules : LinesOfRules
 lines-of-rules s people steps rules e π counts within w i l =
@@ -40,7 +41,7 @@ lines-of-rules s people steps rules e π counts within w i l =
       level = level-left s people steps rules i l;
       limit = limit-left s people steps rules i l;
       count = subst (DifferentClasses (length steps) (scopeLeft m r) (λ t. m .class (r .level) (π t)))
-          (sym (count-is s people steps rules π counts within w i l)) (distinct-different _ _ _);
+          (sym (count-is s people steps rules e π counts within w i l)) (distinct-different _ _ _);
     }
 
 pub lines-asked : LinesAsked
@@ -49,7 +50,7 @@ lines-asked s people steps rules e π counts w v i l =
     let r = ruleOn s (getD rules i 0) in
     subst (λ (x : ℕ). AsksLeft (kindIn x) (getD (jobLeft s people steps rules .«rule_limit») i 0) (sizeLeft m r) (getD counts i 0)) (sym (kind-left s people steps rules i l))
     (subst (λ (x : ℕ). AsksLeft (r .kind) x (sizeLeft m r) (getD counts i 0)) (sym (limit-left s people steps rules i l))
-    (subst (AsksLeft (r .kind) (r .limit) (sizeLeft m r)) (sym (count-is s people steps rules π counts (v .within) w i l)) (v .eligible i l)))
+    (subst (AsksLeft (r .kind) (r .limit) (sizeLeft m r)) (sym (count-is s people steps rules e π counts (v .within) w i l)) (v .eligible i l)))
 
 same-line : {k k′ l l′ m m′ n n′ : ℕ} → k ≡ k′ → l ≡ l′ → m ≡ m′ → n ≡ n′
     → _≡_ {A = RuleLine} (record { kind = k; level = l; limit = m; count = n }) (record { kind = k′; level = l′; limit = m′; count = n′ })

@@ -2,15 +2,16 @@
 use mathlib.Core.Path.{sym, _∙_, subst}
 use Prim.Native.Nat.{ℕ, _<_}
 use native.Mathlib.Omega.{arith}
-use Rattle.card.specs.Fields.{tagOf, shopOf, benchOf}
+use Rattle.card.specs.Fields.{classLevels, tagOf, classOf}
+use Rattle.card.proofs.Levels.{field-used, field-unused}
 use Rattle.sheet.specs.Answer.{jobOf}
 use Rattle.sheet.specs.Faults.{cardsIn}
 use Rattle.sheet.proofs.Fill.{getD-table}
-use Rattle.sheet.proofs.InOrder.{step-in-order}
+use Rattle.sheet.proofs.InOrder.{person-fields, step-in-order, rule-fields}
 use Rattle.sheet.proofs.NoFault.{readable-no-fault, no-fault-readable}
 use Rattle.sheet.proofs.Chains.{chains}
 use Rattle.sheet.proofs.Passes.{sheet-passes}
-use Rattle.sheet.proofs.Readable.{readable-job, step-card}
+use Rattle.sheet.proofs.Readable.{readable-job, person-card, step-card, rule-card, same-above, sheet-levels}
 use Rattle.remaining.proofs.KeptLaws.{kept-below, kept-remains, kept-ordered, kept-every}
 use Rattle.remaining.proofs.Laws.{steps-left-length}
 use Rattle.remaining.specs.Remaining.{skippedAt}
@@ -25,7 +26,8 @@ pub jobs-of-cards : demands.JobsOfCards
 unfolding jobOf
 jobs-of-cards s people steps rules e =
     let w = sheet-passes s people steps rules e .rest in
-    let r = readable-job s people steps rules (cardsIn s) w in
+    let few = sheet-levels s people steps rules e in
+    let r = readable-job s people steps rules (cardsIn s) w few in
     record {
       chains = chains s (cardsIn s) people steps rules w;
       person-tag = λ p l. subst (λ (x : ℕ). 0 < x) (getD-table 64 (tagOf s) people p l) (r .person p l .tag);
@@ -36,10 +38,17 @@ jobs-of-cards s people steps rules e =
           r .step-tags t u l m (getD-table 12 (tagOf s) steps t (omega arith) ∙ d ∙ sym (getD-table 12 (tagOf s) steps u m));
       marked = λ t l. step-in-order s (getD steps t 0) (step-card s people steps rules (cardsIn s) w t l) .skipped;
       fits = marked-fits s people steps rules e;
-      nested = λ p q l m d.
-          sym (getD-table 64 (shopOf s) people p l)
-          ∙ r .nested p q l m (getD-table 64 (benchOf s) people p l ∙ d ∙ sym (getD-table 64 (benchOf s) people q m))
-          ∙ getD-table 64 (shopOf s) people q m;
+      levels-from = few .0;
+      levels-to = few .1;
+      used = λ p q l a b.
+          field-used (classLevels s) q (classOf s q (getD people p 0))
+          (person-fields s (getD people p 0) (person-card s people steps rules (cardsIn s) w p l) .3 q a (omega (arith, few .1))) b;
+      unused = λ p q l a b.
+          field-unused (classLevels s) q (classOf s q (getD people p 0))
+          (person-fields s (getD people p 0) (person-card s people steps rules (cardsIn s) w p l) .3 q (omega arith) b) a;
+      level-from = λ i l. rule-fields s (getD rules i 0) (length steps) (rule-card s people steps rules (cardsIn s) w i l) .1;
+      level-to = λ i l. rule-fields s (getD rules i 0) (length steps) (rule-card s people steps rules (cardsIn s) w i l) .2;
+      nested = same-above s people steps rules (cardsIn s) w;
     }
 
 pub steps-remain : demands.StepsRemain

@@ -71,7 +71,7 @@ opened-demand h j w = go (stands h j w .standing)
           steps,
           rules,
           r,
-          satisfiable-in s people steps rules (permittedIn s people) (mayDo s people steps rules) (permits-left s people steps rules) .1 (k .finish .0, k .finish .1),
+          satisfiable-in s people steps rules r (permittedIn s people) (mayDo s people steps rules) (permits-left s people steps rules) .1 (k .finish .0, k .finish .1),
         )
 
 pub count-demand : demands.CountDemand
@@ -141,7 +141,7 @@ module _ (h : List Event) (j : JobState) (people steps rules : List ℕ) (w : Hi
   -- a plan of the instance, as one of all steps
   back : (σ : Plan) → Valid (instanceIn s people steps rules) (mayDo s people steps rules) σ
       → (π : Plan) × ValidLeft (markedIn s people steps rules) (permittedIn s people) π × Agree (length (stepsLeft s steps)) σ (planLeft (keptAt s steps) π)
-  back = plan-back s people steps rules (permittedIn s people) (mayDo s people steps rules) (permits-left s people steps rules)
+  back = plan-back s people steps rules r (permittedIn s people) (mayDo s people steps rules) (permits-left s people steps rules)
 
   module _ (t p : ℕ) (l : t < length (stepsLeft s steps)) (m : p < length people) (free : getD signer t 0 ≡ 0) where
     abbrev more : List ℕ
@@ -156,7 +156,7 @@ module _ (h : List Event) (j : JobState) (people steps rules : List ℕ) (w : Hi
     agrees-finish : Agrees h s people steps rules t p → CanFinish s people steps rules more
     agrees-finish x = (
       planLeft (keptAt s steps) (x .0),
-      valid-in s people steps rules (permittedIn s people) (mayDo s people steps rules) (permits-left s people steps rules) (x .0) .0 (x .1),
+      valid-in s people steps rules r (permittedIn s people) (mayDo s people steps rules) (permits-left s people steps rules) (x .0) .0 (x .1),
       λ u k c.
           by-cases (eqb u t)
           (λ e. let d = eqb-true u t e in ap (λ (y : ℕ). getD more y 0) d ∙ here ∙ ap suc (sym (ap (planLeft (keptAt s steps) (x .0)) d ∙ x .2)))

@@ -39,10 +39,10 @@ plans-left s people steps rules e =
     record {
       nested =
           instance-nested (length people) (length (stepsLeft s steps)) (length rules) (jobLeft s people steps rules) (readable-in s people steps rules e);
-      leaves = instance-leaves s people steps rules;
-      valid = valid-in s people steps rules (permittedIn s people) (mayDo s people steps rules) (permits-left s people steps rules);
-      every = λ σ. (spread (instance-leaves s people steps rules) σ, spread-at (instance-leaves s people steps rules) σ);
-      order = earlier-left (instance-leaves s people steps rules);
+      leaves = instance-leaves s people steps rules e;
+      valid = valid-in s people steps rules e (permittedIn s people) (mayDo s people steps rules) (permits-left s people steps rules);
+      every = λ σ. (spread (instance-leaves s people steps rules e) σ, spread-at (instance-leaves s people steps rules e) σ);
+      order = earlier-left (instance-leaves s people steps rules e);
     }
 
 -- ---- all skipped

@@ -54,12 +54,12 @@ module _ (cap : ℕ) (s buffer : List ℕ) (number : ℕ) (left : List ℕ) (p :
     -- whoever is away, both have a valid plan or neither
     exists : (away : ℕ → Bool) → Satisfiable posed (without may away) ↔ SatisfiableLeft marked (without permitted away)
     exists away =
-        let w = satisfiable-in s people steps rules (without permitted away) (without may away)
+        let w = satisfiable-in s people steps rules e (without permitted away) (without may away)
         (λ k q l m. ap (λ (x : Bool). x && not (away q)) (permits-left s people steps rules k q l m)) in
         (w .1, w .0)
 
     present : SatisfiableLeft marked permitted ↔ Satisfiable posed may
-    present = satisfiable-in s people steps rules permitted may (permits-left s people steps rules)
+    present = satisfiable-in s people steps rules e permitted may (permits-left s people steps rules)
 
     abbrev bytes : ℕ → List ℕ → List ℕ
     bytes = spareBytesOf s people steps rules buffer

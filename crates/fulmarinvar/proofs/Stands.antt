@@ -13,7 +13,7 @@ use Rattle.bits.proofs.Below.{by-cases}
 use Rattle.card.specs.Fields.{tagOf}
 use Rattle.sheet.proofs.InOrder.{length-right}
 use Rattle.sheet.proofs.Passes.{sheet-passes}
-use Rattle.sheet.proofs.Readable.{readable-job}
+use Rattle.sheet.proofs.Readable.{readable-job, sheet-levels}
 use Rattle.sheet.specs.Answer.{zeros}
 use Rattle.sheet.specs.Faults.{cardsIn}
 use Rattle.sheet.specs.Read.{job, readSheet}
@@ -122,7 +122,7 @@ module _ (s people steps rules : List ℕ) (r : readSheet s ≡ job people steps
         arith,
         steps-left-length s steps,
         kept-few (skippedAt s steps) (length steps),
-        readable-job s people steps rules (cardsIn s) (sheet-passes s people steps rules r .rest) .steps-most,
+        readable-job s people steps rules (cardsIn s) (sheet-passes s people steps rules r .rest) (sheet-levels s people steps rules r) .steps-most,
       )
 
   stands-opened : (h : List Event) (n : ℕ) → n ≡ 0 → Satisfiable (instanceIn s people steps rules) (mayDo s people steps rules) → Stands (opening s n ∷ h) (opened s)

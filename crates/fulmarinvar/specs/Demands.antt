@@ -9,7 +9,7 @@ use Prim.Native.Nat.{ℕ, suc, _+_, _*_, _<_, _≤_}
 use lib.ListN.{length, getD, drop}
 use Rattle.bits.specs.Below.{count}
 use Rattle.bits.specs.Word.{byteAt, longAt, hasBit}
-use Rattle.card.specs.Fields.{tagOf, shopOf, benchOf, skippedOf, ruleKindOf, limitOf, scopeOf}
+use Rattle.card.specs.Fields.{classLevels, levelsIn, tagOf, classOf, skippedOf, ruleKindOf, levelOf, limitOf, scopeOf}
 use Rattle.sheet.specs.Faults.{Fault, cardsIn}
 use Rattle.sheet.specs.Read.{job, fault, readSheet}
 use Rattle.sheet.specs.Readable.{Chains}
@@ -79,15 +79,25 @@ pub record JobOfCards (s people steps rules : List ℕ) : Type 0 where
   -- "Fields are checked .. as the card has them": each rule fits its kind, skipped steps counted
   pub fits : (i : ℕ) → i < length rules
       → Fits (kindIn (ruleKindOf s (getD rules i 0))) (limitOf s (getD rules i 0)) (count (length steps) (hasBit (scopeOf s (getD rules i 0))))
-  -- "Two people on one bench are in one shop (nested classes, document 004, section 2.3)"
-  pub nested : (p q : ℕ) → p < length people → q < length people
-      → benchOf s (getD people p 0) ≡ benchOf s (getD people q 0) → shopOf s (getD people p 0) ≡ shopOf s (getD people q 0)
+  -- "the number of class levels above the person, 1 to 3"; two in a version 1 sheet, shop and bench
+  pub levels-from : 1 ≤ classLevels s
+  pub levels-to : classLevels s ≤ 3
+  -- "not zero where used, zero where not"
+  pub used : (p q : ℕ) → p < length people → 1 ≤ q → q ≤ classLevels s → 0 < classOf s q (getD people p 0)
+  pub unused : (p q : ℕ) → p < length people → classLevels s < q → q ≤ 3 → classOf s q (getD people p 0) ≡ 0
+  -- "The person is the level after the last, and the highest a rule may name"
+  pub level-from : (i : ℕ) → i < length rules → 1 ≤ levelOf s (getD rules i 0)
+  pub level-to : (i : ℕ) → i < length rules → levelOf s (getD rules i 0) ≤ levelsIn s
+  -- "Two people on one bench are in one shop (nested classes, document 004, section 2.3)": no class lies in two classes of the level above
+  pub nested : (q p r : ℕ) → 1 ≤ q → suc q ≤ classLevels s → p < length people → r < length people
+      → classOf s (suc q) (getD people p 0) ≡ classOf s (suc q) (getD people r 0) → classOf s q (getD people p 0) ≡ classOf s q (getD people r 0)
 
 abbrev pub JobsOfCards : Type 0
 JobsOfCards = (s people steps rules : List ℕ) → readSheet s ≡ job people steps rules → JobOfCards s people steps rules
 
 -- ---- Demand 2. "A readable sheet with a large enough buffer gets a crew exactly when a valid plan exists ..; the crew is the first valid one
--- in crew order; "no plan" in every other case." A valid plan is one over the remaining steps (workflow/specs/Skipped.antt); Skipped.antt beside this page
+-- in crew order; "no plan" in every other case." The rules are over the levels of the sheet: "demand 2's shop, bench and person become these
+-- levels" (`classOn`, instance/specs/Marked.antt; Levels.antt beside this page). A valid plan is one over the remaining steps (workflow/specs/Skipped.antt); Skipped.antt beside this page
 -- says that these are the valid plans, in the sense of document 004, of the instance over the remaining steps.
 
 -- "8 bytes a step, step tag then person tag, steps in chain order", of the steps that remain; "Later bytes of the buffer keep their values."

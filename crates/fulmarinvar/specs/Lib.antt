@@ -3,6 +3,8 @@ pub mod History
 pub mod Demands
 pub mod Signing
 pub mod Skipped
+pub mod FirstEdition
+pub mod Levels
 pub mod RuleCounts
 pub mod ByTrial
 pub mod Sheets

@@ -1,4 +1,4 @@
--- The starred sheets to try of paper 01, and W with skipped steps, in one table with one statement. Assumes nothing.
+-- The starred sheets to try of paper 01, W with skipped steps and sheets with other levels, in one table with one statement. Assumes nothing.
 use mathlib.Core.List.{List, [], _∷_, _++_}
 use mathlib.Core.Path.{_≡_}
 use Prim.Native.Nat.{ℕ, _+_}
@@ -7,8 +7,9 @@ use Rattle.answer.specs.Bytes.{Outcome, refused, written}
 use Rattle.answer.specs.Crew.{crewAnswer}
 use Rattle.resiliency.specs.Spare.{spareAnswer}
 use Rattle.fulmarinvar.specs.ByTrial.{plansTriedOf}
+use Rattle.fulmarinvar.specs.FirstEdition.{crewFirst, spareFirst}
 use Rattle.fulmarinvar.specs.RuleCounts.{RuleLine, ruleLines}
-use Rattle.fulmarinvar.specs.Sheets.{sheetW, sheet3, sheet9, sheetWith, sheetOne, sheetSkipping}
+use Rattle.fulmarinvar.specs.Sheets.{sheetW, sheet3, sheet9, sheetWith, sheetOne, sheetSkipping, sheetW2, sheetShops, sheetPairs}
 
 -- what the spare call gives with a cap
 pub record SpareTrial : Type 0 where
@@ -64,7 +65,12 @@ figures kind level limit count = record { kind = kind; level = level; limit = li
 abbrev pub linesW : List RuleLine
 linesW = figures 1 2 0 1 ∷ figures 1 1 0 1 ∷ figures 2 3 0 2 ∷ []
 
--- sheets 1 and 2, which are W with two caps, 3 to 9, and W with its second step skipped, then with all
+-- a sheet that cannot be read, with every byte as it was
+abbrev pub unreadable : ℕ → ℕ → ℕ → Outcome
+unreadable refusal card n = refused refusal card (used n)
+
+-- sheets 1 and 2, which are W with two caps, 3 to 9, and W with its second step skipped, then with all; of version 2 W, shops only, and pairs within benches; then
+-- a pair on two benches, and four class levels
 abbrev pub trials : List SheetTrial
 trials =
     record { sheet = sheetW; size = 24; crew = crewW; tried = 2; lines = linesW; spares = counted 2 1 (101 ∷ 102 ∷ 0 ∷ []) ∷ counted 0 0 (0 ∷ 0 ∷ 0 ∷ []) ∷ [] }
@@ -77,4 +83,13 @@ trials =
     ∷ record { sheet = sheet9; size = 24; crew = tags (10 ∷ 101 ∷ 20 ∷ 101 ∷ 30 ∷ 101 ∷ []); tried = 1; lines = figures 1 2 0 1 ∷ figures 1 1 0 1 ∷ []; spares = counted 2 1 (101 ∷ 102 ∷ 0 ∷ []) ∷ [] }
     ∷ record { sheet = sheetSkipping 0 1 0; size = 16; crew = tags (10 ∷ 101 ∷ 30 ∷ 101 ∷ []); tried = 1; lines = figures 1 2 0 1 ∷ figures 1 1 0 1 ∷ figures 2 3 0 1 ∷ []; spares = counted 2 1 (101 ∷ 102 ∷ 0 ∷ []) ∷ [] }
     ∷ record { sheet = sheetSkipping 1 1 1; size = 0; crew = tags []; tried = 1; lines = figures 1 2 0 0 ∷ figures 1 1 0 0 ∷ figures 2 3 0 0 ∷ []; spares = counted 2 2 (0 ∷ 0 ∷ 0 ∷ []) ∷ [] }
+    ∷ record { sheet = sheetW2; size = 24; crew = crewW; tried = 2; lines = linesW; spares = counted 2 1 (101 ∷ 102 ∷ 0 ∷ []) ∷ counted 0 0 (0 ∷ 0 ∷ 0 ∷ []) ∷ [] }
+    ∷ record { sheet = sheetShops; size = 24; crew = crewW; tried = 2; lines = figures 1 1 0 1 ∷ figures 2 2 0 2 ∷ []; spares = counted 2 1 (101 ∷ 102 ∷ 0 ∷ []) ∷ [] }
+    ∷ record { sheet = sheetPairs 3 3; size = 24; crew = tags (10 ∷ 101 ∷ 20 ∷ 102 ∷ 30 ∷ 101 ∷ []); tried = 5; lines = figures 1 2 0 1 ∷ figures 2 3 0 2 ∷ figures 2 4 0 2 ∷ []; spares = counted 2 0 (101 ∷ 0 ∷ 0 ∷ []) ∷ [] }
+    ∷ record { sheet = sheetPairs 3 1; size = 24; crew = unreadable 11 3 27; tried = 0; lines = []; spares = record { cap = 2; spare = unreadable 11 3 19 } ∷ [] }
+    ∷ record { sheet = sheetPairs 4 3; size = 24; crew = unreadable 4 0 27; tried = 0; lines = []; spares = record { cap = 2; spare = unreadable 4 0 19 } ∷ [] }
     ∷ []
+
+-- "A planner of the first edition answers 4 to new sheets": W of version 2, with what it answers
+abbrev pub AnsweredBefore : Type 0
+AnsweredBefore = (crewFirst sheetW2 (used 27) ≡ unreadable 4 0 27) × (spareFirst 2 sheetW2 (used 19) ≡ unreadable 4 0 19)

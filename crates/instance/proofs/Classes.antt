@@ -1,31 +1,34 @@
 -- Classes by level; and labels for the classes of steps, a class having the first step that has it. Assumes nothing.
-use mathlib.Core.Bool.{Bool}
+use mathlib.Core.Bool.{Bool, true, false}
 use mathlib.Core.List.{List}
 use mathlib.Core.Path.{_≡_, refl, sym, subst, ap, _∙_}
-use Prim.Native.Nat.{ℕ, zero, suc, _<_, _≤_}
+use Prim.Native.Nat.{ℕ, _+_, _*_, _-_, _<_, _≤_}
 use native.Mathlib.Omega.{arith}
-use lib.Dec.{eqb}
+use lib.Dec.{eqb, leb, ltb}
 use lib.ListN.{getD}
-use borrow.Author.Tests.{eqb-true, eqb-false, eq-eqb}
+use borrow.Author.Tests.{eqb-true, eqb-false, eq-eqb, le-leb, lt-ltb, ltb-true}
 use Rattle.bits.specs.Below.{first}
-use Rattle.bits.proofs.Below.{by-cases, true-false, first-le, first-has, first-none}
+use Rattle.bits.proofs.Below.{by-cases, true-false, and-right, first-le, first-has, first-none}
+use Rattle.bits.proofs.ColumnLaws.{column-entry}
+use Rattle.bits.proofs.Counting.{is-false}
 use Rattle.workflow.specs.Problem.{distinct}
 use Rattle.workflow.proofs.Counts.{distinct-alike}
-use Rattle.instance.specs.Instance.{classAt}
+use Rattle.instance.specs.Instance.{isClassLevel, classAt}
 
--- level 1 is the shop, level 2 the bench
-pub class-shop : (shop bench : List ℕ) (level p : ℕ) → level ≡ 1 → getD shop p 0 ≡ classAt shop bench level p
-class-shop shop bench level p e = rw e
+-- at a class level it is the entry of the table
+pub class-entry : (levels : ℕ) (class : List ℕ) (q p : ℕ) → isClassLevel levels q ≡ true → p < 64 → getD class ((q - 1) * 64 + p) 0 ≡ classAt levels class q p
+class-entry levels class q p h l = sym (rw h (column-entry class q p l))
 
-pub class-bench : (shop bench : List ℕ) (level p : ℕ) → level ≡ 2 → getD bench p 0 ≡ classAt shop bench level p
-class-bench shop bench level p e = rw e
+-- at any other each person is a class
+pub class-person : (levels : ℕ) (class : List ℕ) (q p : ℕ) → isClassLevel levels q ≡ false → p ≡ classAt levels class q p
+class-person levels class q p h = rw h
 
--- from level 3 on, and at 0, each person is a class
-pub class-person : (shop bench : List ℕ) (level p : ℕ) → (level ≡ 1 → ⊥) → (level ≡ 2 → ⊥) → p ≡ classAt shop bench level p
-class-person shop bench zero p a b = refl
-class-person shop bench (suc zero) p a b = absurd (a refl)
-class-person shop bench (suc (suc zero)) p a b = absurd (b refl)
-class-person shop bench (suc (suc (suc q))) p a b = refl
+-- which levels are class levels
+pub class-level : (levels q : ℕ) → 1 ≤ q → q < levels → isClassLevel levels q ≡ true
+class-level levels q l m = rw (le-leb 1 q l, lt-ltb q levels m) refl
+
+pub past-classes : (levels q : ℕ) → levels ≤ q → isClassLevel levels q ≡ false
+past-classes levels q l = is-false (isClassLevel levels q) (λ t. let m = ltb-true q levels (and-right (leb 1 q) (ltb q levels) t) in omega arith)
 
 -- the first step that has the class of step s
 abbrev pub firstAlike : (ℕ → ℕ) → ℕ → ℕ

@@ -46,6 +46,7 @@ module _ {people steps rules : ℕ} {j : sheet.SheetJob} (r : ReadableJob people
   rules-staffed plan sized all =
       record {
         few = r .rules-most;
+        levels = r .levels-most;
         sized = sized;
         scoped = λ i l. let a : 2 ^ steps ≤ 2 ^ 12 = pow-mono (r .steps-most) in omega (arith, scoped i l);
         staffed = λ i s l h t b. all t (omega (arith, has-below steps (getD (j .«rule_scope») i 0) s (scoped i l) h));

@@ -6,22 +6,24 @@ use mathlib.Core.Logic.{_↔_}
 use mathlib.Core.Path.{_≡_, refl, _∙_, ap, ap₂, subst}
 use Prim.Native.Nat.{ℕ, zero, suc, _/_, _<_, min}
 use native.Mathlib.Omega.{arith}
-use lib.Dec.{ltb}
+use lib.Dec.{leb, ltb}
 use lib.ListN.{length, getD}
-use borrow.Author.Tests.{lt-ltb}
+use borrow.Author.Tests.{lt-ltb, leb-true, ltb-true}
 use Rattle.bits.specs.Below.{count}
 use Rattle.bits.specs.Word.{hasBit}
+use Rattle.bits.proofs.Below.{by-cases, and-left, and-right}
 use Rattle.bits.proofs.Masks.{size-below}
-use Rattle.card.specs.Fields.{permittedOf, ruleKindOf, levelOf, limitOf, scopeOf, scopeSize, limitOk}
+use Rattle.card.specs.Fields.{levelsIn, classOf, permittedOf, ruleKindOf, levelOf, limitOf, scopeOf, scopeSize, limitOk}
 use Rattle.card.proofs.Limits.{limit-cases}
 use Rattle.sheet.specs.Read.{job, readSheet}
 use Rattle.sheet.proofs.Chains.{chains}
+use Rattle.sheet.proofs.Fill.{getD-table}
 use Rattle.sheet.proofs.InOrder.{below-power, rule-fields}
 use Rattle.sheet.proofs.Passes.{sheet-passes}
-use Rattle.sheet.proofs.Readable.{rule-card}
+use Rattle.sheet.proofs.Readable.{rule-card, sheet-levels}
 use Rattle.remaining.specs.Remaining.{skippedAt, keptOf, keptAt, stepsLeft, jobLeft}
 use Rattle.remaining.proofs.KeptLaws.{kept-below, kept-remains, kept-ordered, kept-every}
-use Rattle.remaining.proofs.Laws.{steps-left-length, permitted-left, scope-left, shop-left, bench-left, kind-left, level-left, limit-left}
+use Rattle.remaining.proofs.Laws.{steps-left-length, permitted-left, scope-left, levels-left, column-left, kind-left, level-left, limit-left}
 use Rattle.workflow.specs.Problem.{May, Plan, Agree, Fits, Valid, Satisfiable, leastOf, mostOf}
 use Rattle.workflow.specs.First.{FirstValid}
 use Rattle.workflow.specs.Numbered.{kindIn}
@@ -29,7 +31,7 @@ use Rattle.workflow.specs.Skipped.{ValidLeft, SatisfiableLeft, FirstValidLeft, 
 use Rattle.workflow.specs.Leaves.{Leaves, planLeft, mayLeft}
 use Rattle.workflow.proofs.Leaves.{valid-left, satisfiable-left, first-left, spread, spread-at, spread-valid, first-spread, valid-whole}
 use Rattle.workflow.proofs.Same.{permitted-valid}
-use Rattle.instance.specs.Instance.{classAt, instanceIn, mayDo}
+use Rattle.instance.specs.Instance.{isClassLevel, classAt, classNumber, instanceIn, mayDo}
 use Rattle.instance.specs.Marked.{classOn, markedIn, permittedIn}
 
 module _ (s people steps rules : List ℕ) where
@@ -40,80 +42,87 @@ module _ (s people steps rules : List ℕ) where
   kept : (k : ℕ) → k < left → k < length (keptOf s steps)
   kept k l = omega (arith, steps-left-length s steps)
 
-  -- the arrays have the classes of the cards
-  class-same : (level p : ℕ) → p < length people
-      → classAt (jobLeft s people steps rules .shop) (jobLeft s people steps rules .bench) level p ≡ classOn s people level p
-  class-same zero p l = refl
-  class-same (suc zero) p l = shop-left s people steps rules p l
-  class-same (suc (suc zero)) p l = bench-left s people steps rules p l
-  class-same (suc (suc (suc q))) p l = refl
-
   -- a bit of what is left is that of the step
   bit-left : (k : ℕ) (b : Bool) → k < left → (ltb k (length (keptOf s steps)) && b) ≡ b
   bit-left k b l = ap (λ (x : Bool). x && b) (lt-ltb k (length (keptOf s steps)) (kept k l))
-
-  pub instance-leaves : Leaves (markedIn s people steps rules) (instanceIn s people steps rules) (keptAt s steps)
-  instance-leaves =
-      record {
-        below = λ k l. kept-below (skippedAt s steps) (length steps) k (kept k l);
-        remains = λ k l. kept-remains (skippedAt s steps) (length steps) k (kept k l);
-        ordered = λ k m a b. kept-ordered (skippedAt s steps) (length steps) k m a (kept m b);
-        every = λ t l h.
-            let k = kept-every (skippedAt s steps) (length steps) t l h in
-            (k .0, omega (arith, k .1, steps-left-length s steps), k .2);
-        people = refl;
-        rules = refl;
-        scope = λ i k l a. scope-left s people steps rules i k l ∙ bit-left k (hasBit (scopeOf s (getD rules i 0)) (keptAt s steps k)) a;
-        least = λ i l.
-            ap₂ (λ (x y : ℕ). min (leastOf (kindIn x) y) (count left (instanceIn s people steps rules .rule i .scope)))
-            (kind-left s people steps rules i l) (limit-left s people steps rules i l);
-        most = λ i l.
-            ap₂ (λ (x y : ℕ). min (mostOf (kindIn x) y left) left) (kind-left s people steps rules i l) (limit-left s people steps rules i l);
-        class = λ i p l m.
-            ap (λ (q : ℕ). classAt (jobLeft s people steps rules .shop) (jobLeft s people steps rules .bench) q p) (level-left s people steps rules i l)
-            ∙ class-same (levelOf s (getD rules i 0)) p m;
-      }
 
   -- the arrays permit what the cards permit
   pub permits-left : (k p : ℕ) → k < left → p < length people → mayDo s people steps rules k p ≡ mayLeft (keptAt s steps) (permittedIn s people) k p
   permits-left k p l m =
       permitted-left s people steps rules p k m ∙ bit-left k (hasBit (permittedOf s (getD people p 0)) (keptAt s steps k)) l
 
-  -- whoever may do what, if it is the same along the steps that remain
-  module _ (may may′ : May) (same : (k p : ℕ) → k < left → p < length people → may′ k p ≡ mayLeft (keptAt s steps) may k p) where
-    pub valid-in : (π : Plan) → ValidLeft (markedIn s people steps rules) may π ↔ Valid (instanceIn s people steps rules) may′ (planLeft (keptAt s steps) π)
-    valid-in π =
-        let a = valid-left instance-leaves may π in
-        let b = permitted-valid (instanceIn s people steps rules) may′ (mayLeft (keptAt s steps) may) same (planLeft (keptAt s steps) π) in
-        (λ v. b .1 (a .0 v), λ v. a .1 (b .0 v))
+  module _ (read : readSheet s ≡ job people steps rules) where
+    -- the table has the classes of the cards
+    class-same : (q p : ℕ) → p < length people → classNumber (jobLeft s people steps rules) q p ≡ classOn s people q p
+    class-same q p l =
+        let e = levels-left s people steps rules in
+        let few = chains s (length s / 16) people steps rules (sheet-passes s people steps rules read .rest) .people-chain .short in
+        let few-levels = sheet-levels s people steps rules read .1 in
+        ap (λ (n : ℕ). classAt n (jobLeft s people steps rules .class) q p) e
+        ∙ by-cases (isClassLevel (levelsIn s) q)
+        (λ t.
+        let from = leb-true 1 q (and-left (leb 1 q) (ltb q (levelsIn s)) t) in
+        let to = ltb-true q (levelsIn s) (and-right (leb 1 q) (ltb q (levelsIn s)) t) in
+        rw t (ap (λ (x : List ℕ). getD x p 0) (column-left s people steps rules few few-levels q from (omega arith)) ∙ getD-table 64 (classOf s q) people p l))
+        (λ t. rw t refl)
 
-    pub satisfiable-in : SatisfiableLeft (markedIn s people steps rules) may ↔ Satisfiable (instanceIn s people steps rules) may′
-    satisfiable-in =
-        let a = satisfiable-left instance-leaves may in (
-          λ v. let w = a .0 v in (w .0, permitted-valid (instanceIn s people steps rules) may′ (mayLeft (keptAt s steps) may) same (w .0) .1 (w .1)),
-          λ v. a .1 (v .0, permitted-valid (instanceIn s people steps rules) may′ (mayLeft (keptAt s steps) may) same (v .0) .0 (v .1)),
-        )
+    pub instance-leaves : Leaves (markedIn s people steps rules) (instanceIn s people steps rules) (keptAt s steps)
+    instance-leaves =
+        record {
+          below = λ k l. kept-below (skippedAt s steps) (length steps) k (kept k l);
+          remains = λ k l. kept-remains (skippedAt s steps) (length steps) k (kept k l);
+          ordered = λ k m a b. kept-ordered (skippedAt s steps) (length steps) k m a (kept m b);
+          every = λ t l h.
+              let k = kept-every (skippedAt s steps) (length steps) t l h in
+              (k .0, omega (arith, k .1, steps-left-length s steps), k .2);
+          people = refl;
+          rules = refl;
+          scope = λ i k l a. scope-left s people steps rules i k l ∙ bit-left k (hasBit (scopeOf s (getD rules i 0)) (keptAt s steps k)) a;
+          least = λ i l.
+              ap₂ (λ (x y : ℕ). min (leastOf (kindIn x) y) (count left (instanceIn s people steps rules .rule i .scope)))
+              (kind-left s people steps rules i l) (limit-left s people steps rules i l);
+          most = λ i l.
+              ap₂ (λ (x y : ℕ). min (mostOf (kindIn x) y left) left) (kind-left s people steps rules i l) (limit-left s people steps rules i l);
+          class = λ i p l m.
+              ap (λ (q : ℕ). classNumber (jobLeft s people steps rules) q p) (level-left s people steps rules i l)
+              ∙ class-same (levelOf s (getD rules i 0)) p m;
+        }
 
-    pub first-in : (π : Plan)
-        → FirstValidLeft (markedIn s people steps rules) may π ↔ FirstValid (instanceIn s people steps rules) may′ (planLeft (keptAt s steps) π)
-    first-in π =
-        let a = first-left instance-leaves may π in
-        let b = permitted-valid (instanceIn s people steps rules) may′ (mayLeft (keptAt s steps) may) same in (
-          λ f. let g = a .0 f in record { valid = b (planLeft (keptAt s steps) π) .1 (g .valid); first = λ σ v e. g .first σ (b σ .0 v) e },
-          λ f. a .1 (record { valid = b (planLeft (keptAt s steps) π) .0 (f .valid); first = λ σ v e. f .first σ (b σ .1 v) e }),
-        )
+    -- whoever may do what, if it is the same along the steps that remain
+    module _ (may may′ : May) (same : (k p : ℕ) → k < left → p < length people → may′ k p ≡ mayLeft (keptAt s steps) may k p) where
+      pub valid-in : (π : Plan) → ValidLeft (markedIn s people steps rules) may π ↔ Valid (instanceIn s people steps rules) may′ (planLeft (keptAt s steps) π)
+      valid-in π =
+          let a = valid-left instance-leaves may π in
+          let b = permitted-valid (instanceIn s people steps rules) may′ (mayLeft (keptAt s steps) may) same (planLeft (keptAt s steps) π) in
+          (λ v. b .1 (a .0 v), λ v. a .1 (b .0 v))
 
-    -- a plan of the instance, as one of all steps
-    pub plan-back : (σ : Plan) → Valid (instanceIn s people steps rules) may′ σ
-        → (π : Plan) × ValidLeft (markedIn s people steps rules) may π × Agree left σ (planLeft (keptAt s steps) π)
-    plan-back σ v =
-        let w = permitted-valid (instanceIn s people steps rules) may′ (mayLeft (keptAt s steps) may) same σ .0 v in
-        (spread instance-leaves σ, spread-valid instance-leaves may σ w, spread-at instance-leaves σ)
+      pub satisfiable-in : SatisfiableLeft (markedIn s people steps rules) may ↔ Satisfiable (instanceIn s people steps rules) may′
+      satisfiable-in =
+          let a = satisfiable-left instance-leaves may in (
+            λ v. let w = a .0 v in (w .0, permitted-valid (instanceIn s people steps rules) may′ (mayLeft (keptAt s steps) may) same (w .0) .1 (w .1)),
+            λ v. a .1 (v .0, permitted-valid (instanceIn s people steps rules) may′ (mayLeft (keptAt s steps) may) same (v .0) .0 (v .1)),
+          )
 
-    pub first-back : (σ : Plan) → FirstValid (instanceIn s people steps rules) may′ σ → (π : Plan) × FirstValidLeft (markedIn s people steps rules) may π
-    first-back σ f =
-        let b = permitted-valid (instanceIn s people steps rules) may′ (mayLeft (keptAt s steps) may) same in
-        (spread instance-leaves σ, first-spread instance-leaves may σ (record { valid = b σ .0 (f .valid); first = λ τ v e. f .first τ (b τ .1 v) e }))
+      pub first-in : (π : Plan)
+          → FirstValidLeft (markedIn s people steps rules) may π ↔ FirstValid (instanceIn s people steps rules) may′ (planLeft (keptAt s steps) π)
+      first-in π =
+          let a = first-left instance-leaves may π in
+          let b = permitted-valid (instanceIn s people steps rules) may′ (mayLeft (keptAt s steps) may) same in (
+            λ f. let g = a .0 f in record { valid = b (planLeft (keptAt s steps) π) .1 (g .valid); first = λ σ v e. g .first σ (b σ .0 v) e },
+            λ f. a .1 (record { valid = b (planLeft (keptAt s steps) π) .0 (f .valid); first = λ σ v e. f .first σ (b σ .1 v) e }),
+          )
+
+      -- a plan of the instance, as one of all steps
+      pub plan-back : (σ : Plan) → Valid (instanceIn s people steps rules) may′ σ
+          → (π : Plan) × ValidLeft (markedIn s people steps rules) may π × Agree left σ (planLeft (keptAt s steps) π)
+      plan-back σ v =
+          let w = permitted-valid (instanceIn s people steps rules) may′ (mayLeft (keptAt s steps) may) same σ .0 v in
+          (spread instance-leaves σ, spread-valid instance-leaves may σ w, spread-at instance-leaves σ)
+
+      pub first-back : (σ : Plan) → FirstValid (instanceIn s people steps rules) may′ σ → (π : Plan) × FirstValidLeft (markedIn s people steps rules) may π
+      first-back σ f =
+          let b = permitted-valid (instanceIn s people steps rules) may′ (mayLeft (keptAt s steps) may) same in
+          (spread instance-leaves σ, first-spread instance-leaves may σ (record { valid = b σ .0 (f .valid); first = λ τ v e. f .first τ (b τ .1 v) e }))
 
 -- ---- the rules fit, with all steps of their scopes
 

@@ -4,15 +4,16 @@ use mathlib.Core.List.{List}
 use mathlib.Core.Path.{_≡_}
 use Prim.Native.Nat.{ℕ, suc, _^_, _≤_, _<_}
 use lib.ListN.{length, getD}
+use Rattle.bits.specs.Sizes.{mostLevels, classWords}
 use Rattle.bits.specs.Word.{hasBit}
 use Rattle.sheet.specs.declared.SheetJob as sheet
 use Rattle.workflow.specs.Problem.{Job, Plan, classCount}
 use Rattle.instance.specs.Instance.{instanceOf}
 
--- an array for a plan, and for the shop and the bench of everyone
-pub record Columns (shop bench plan : List ℕ) : Type 0 where
-  pub shops : length shop ≡ 64
-  pub benches : length bench ≡ 64
+-- an array for a plan, and for everyone's class at each class level
+pub record Columns (levels : ℕ) (class plan : List ℕ) : Type 0 where
+  pub few : levels ≤ mostLevels
+  pub classes : length class ≡ classWords
   pub sized : length plan ≡ 12
 
 -- the plan has a place in the table of people for each step below n
@@ -22,6 +23,7 @@ Staffed n plan = (s : ℕ) → s < n → getD plan s 0 < 64
 -- and for each step that a rule can name
 pub record RulesStaffed (rules : ℕ) (j : sheet.SheetJob) (plan : List ℕ) : Type 0 where
   pub few : rules ≤ 64
+  pub levels : j .levels ≤ mostLevels
   pub sized : length plan ≡ 12
   pub scoped : (i : ℕ) → i < rules → getD (j .«rule_scope») i 0 < 4096
   pub staffed : (i s : ℕ) → i < rules → hasBit (getD (j .«rule_scope») i 0) s ≡ true → Staffed (suc s) plan

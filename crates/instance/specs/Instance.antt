@@ -1,22 +1,26 @@
 -- The job of a readable sheet, over the steps that remain, as an instance of the workflow satisfiability problem. Assumes nothing.
+use mathlib.Core.Bool.{Bool, cond, _&&_}
 use mathlib.Core.List.{List, [], _∷_, _++_}
 use Prim.Native.Nat.{ℕ, zero, suc}
+use lib.Dec.{leb, ltb}
 use lib.ListN.{length, getD}
+use Rattle.bits.specs.Columns.{classEntry}
 use Rattle.bits.specs.Word.{hasBit}
 use Rattle.remaining.specs.Remaining.{stepsLeft, jobLeft}
 use Rattle.sheet.specs.declared.SheetJob as sheet
 use Rattle.workflow.specs.Problem.{Job, May}
 use Rattle.workflow.specs.Numbered.{cardRule}
 
--- "Level 1 is the shop, 2 the bench, 3 the person.": of everyone's shop, everyone's bench, level and person
-abbrev pub classAt : List ℕ → List ℕ → ℕ → ℕ → ℕ
-classAt shop bench zero p = p
-classAt shop bench (suc zero) p = getD shop p 0
-classAt shop bench (suc (suc zero)) p = getD bench p 0
-classAt shop bench (suc (suc (suc q))) p = p
+-- q is a class level, of so many levels in all: "The person is the level after the last"
+abbrev pub isClassLevel : ℕ → ℕ → Bool
+isClassLevel levels q = leb 1 q && ltb q levels
+
+-- of the number of levels, everyone's classes, level and person: the class at a class level, and else the person
+abbrev pub classAt : ℕ → List ℕ → ℕ → ℕ → ℕ
+classAt levels class q p = cond (isClassLevel levels q) (classEntry class q p) p
 
 abbrev pub classNumber : sheet.SheetJob → ℕ → ℕ → ℕ
-classNumber j = classAt (j .shop) (j .bench)
+classNumber j = classAt (j .levels) (j .class)
 
 -- the instance that a reading with these counts gives
 abbrev pub instanceOf : ℕ → ℕ → ℕ → sheet.SheetJob → Job
@@ -24,7 +28,7 @@ instanceOf people steps rules j =
     record {
       steps = steps;
       people = people;
-      levels = 3;
+      levels = j .levels;
       class = classNumber j;
       rules = rules;
       rule = cardRule steps (j .«rule_kind») (j .«rule_level») (j .«rule_limit») (j .«rule_scope»);

@@ -1,21 +1,21 @@
 -- The job of a readable sheet as its cards have it, all steps of the chain counted, skipped or not: that of Ask 5 (workflow/specs/Skipped.antt).
 -- people, steps and rules are the cards along the chains. Assumes nothing.
+use mathlib.Core.Bool.{cond}
 use mathlib.Core.List.{List}
-use Prim.Native.Nat.{ℕ, zero, suc}
+use Prim.Native.Nat.{ℕ}
 use lib.ListN.{length, getD}
 use Rattle.bits.specs.Word.{hasBit}
-use Rattle.card.specs.Fields.{shopOf, benchOf, permittedOf, ruleKindOf, levelOf, limitOf, scopeOf}
+use Rattle.card.specs.Fields.{levelsIn, classOf, permittedOf, ruleKindOf, levelOf, limitOf, scopeOf}
 use Rattle.remaining.specs.Remaining.{skippedAt}
 use Rattle.workflow.specs.Numbered.{kindIn}
 use Rattle.workflow.specs.Problem.{May}
 use Rattle.workflow.specs.Skipped.{CardRule, MarkedJob}
+use Rattle.instance.specs.Instance.{isClassLevel}
 
--- "Level 1 is the shop, 2 the bench, 3 the person.": of level and person
+-- "Level 1 is the shop, 2 the bench, 3 the person." "bytes 8-9, 10-11 and 14-15 of a person card .. The person is the level after the last":
+-- of level and person
 abbrev pub classOn : List ℕ → List ℕ → ℕ → ℕ → ℕ
-classOn s people zero p = p
-classOn s people (suc zero) p = shopOf s (getD people p 0)
-classOn s people (suc (suc zero)) p = benchOf s (getD people p 0)
-classOn s people (suc (suc (suc q))) p = p
+classOn s people q p = cond (isClassLevel (levelsIn s) q) (classOf s q (getD people p 0)) p
 
 -- "Rule: byte 1 rule kind 1 to 4; byte 4 level 1 to 3; byte 5 limit; bytes 6-7 scope, bit j for step j"
 abbrev pub ruleOn : List ℕ → ℕ → CardRule

@@ -16,7 +16,7 @@ pub fn rule_counts(job: SheetJob, rules: usize, plan: &Plan) -> RuleBytes
     let scope = job.rule_scope;
     let mut counts = [0u8; MOST_RULES];
     for i in 0..rules {
-        counts[i] = rule_count(&job.shop, &job.bench, level[i], scope[i], plan) as u8;
+        counts[i] = rule_count(&job.class, job.levels, level[i], scope[i], plan) as u8;
     }
     counts
 }

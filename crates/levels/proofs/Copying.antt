@@ -1,4 +1,4 @@
--- Entries copied into a new array, one after the other. Assumes nothing.
+-- The rows of the levels that are kept, copied into a new array. Assumes nothing.
 use mathlib.Core.List.{List}
 use mathlib.Core.Path.{_≡_, sym, subst, ap, ap₂, _∙_}
 use Prim.Native.Nat.{ℕ, zero, suc, _+_, _*_, _-_, _/_, _%_, _≤_, _<_}
@@ -8,24 +8,11 @@ use lib.ListN.{length, getD, set, length-set}
 use lib.Seq.{getD-set-same, getD-set-other}
 use borrow.Author.Tests.{eqb-true, eqb-false}
 use Rattle.bits.proofs.Below.{by-cases}
+use Rattle.bits.proofs.Copied.{Copied}
+use Rattle.bits.specs.Sizes.{classEntries}
 use Rattle.pattern.specs.Rule.{levelIn, leastIn, mostIn, scopeIn, Packed}
 use Rattle.pattern.specs.Tables.{classIn}
 use Rattle.levels.specs.Trims.{KeptLevels, OldLevels, Rows, Renumbered}
-
--- the first n entries are those that f gives
-pub record Copied (size n : ℕ) (f : ℕ → ℕ) (xs : List ℕ) : Type 0 where
-  pub sized : length xs ≡ size
-  pub each : (i : ℕ) → i < n → getD xs i 0 ≡ f i
-
-pub copied-more : (size n : ℕ) (f : ℕ → ℕ) (xs : List ℕ) → n < size → Copied size n f xs → Copied size (n + 1) f (set xs n (f n))
-copied-more size n f xs l w =
-    record {
-      sized = length-set xs n (f n) ∙ w .sized;
-      each = λ i b.
-          by-cases (eqb i n)
-          (λ x. subst (λ (k : ℕ). getD (set xs n (f n)) k 0 ≡ f k) (sym (eqb-true i n x)) (getD-set-same xs n (f n) 0 (omega (arith, w .sized))))
-          (λ x. let d : i ≡ n → ⊥ = eqb-false i n x in getD-set-other xs n i (f n) 0 d ∙ w .each i (omega arith));
-    }
 
 -- entry x of the classes kept
 abbrev pub rowEntry : List ℕ → List ℕ → ℕ → ℕ
@@ -38,7 +25,7 @@ row-from w x l = w .from (x / 64 + 1) (omega arith) (omega arith)
 pub row-to : {levels n : ℕ} {old : List ℕ} → OldLevels levels n old → (x : ℕ) → x < n * 64 → getD old (x / 64 + 1) 0 ≤ levels
 row-to w x l = w .to (x / 64 + 1) (omega arith) (omega arith)
 
-pub copied-rows : (n x : ℕ) (old class class′ : List ℕ) → Copied 192 x (rowEntry old class) class′ → n * 64 ≤ x → Rows n old class class′
+pub copied-rows : (n x : ℕ) (old class class′ : List ℕ) → Copied classEntries x (rowEntry old class) class′ → n * 64 ≤ x → Rows n old class class′
 copied-rows n x old class class′ w l =
     record {
       sized = w .sized;
@@ -84,7 +71,7 @@ module _ {n : ℕ} {old : List ℕ} (w : OldLevels n n old) where
   number-to zero k l e = omega (arith, w .to k l (omega arith))
   number-to (suc d) k l e = omega (arith, number-to d (suc k) (omega arith) (omega arith), w .ordered k l (omega arith))
 
-  pub rows-all : (class : List ℕ) → length class ≡ 192 → Rows n old class class
+  pub rows-all : (class : List ℕ) → length class ≡ classEntries → Rows n old class class
   rows-all class e =
       record {
         sized = e;

@@ -13,6 +13,7 @@ use Rattle.bits.specs.Word.{hasBit}
 use Rattle.bits.specs.Set.{Added}
 use Rattle.bits.proofs.Below.{by-cases, below-suc, true-false}
 use Rattle.bits.proofs.SetLaws.{empty-lacks, added-has, added-other}
+use Rattle.bits.specs.Sizes.{mostLevels, classEntries}
 use Rattle.pattern.specs.declared.Size.{Size}
 use Rattle.pattern.specs.Given.{Given, Numbers}
 use Rattle.pattern.specs.Tables.{classIn, numberIn}
@@ -22,10 +23,10 @@ use Rattle.pattern.specs.Nesting.{ByNumber}
 use Rattle.levels.specs.Tabled.{ByPerson, Gathered}
 
 module _ (class numbered : List ℕ) where
-  pub person-none : (crowd : List ℕ) → length crowd ≡ 192 → ByPerson class numbered 0 crowd
+  pub person-none : (crowd : List ℕ) → length crowd ≡ classEntries → ByPerson class numbered 0 crowd
   person-none crowd l = record { sized = l; each = λ y h. absurd (not-suc-le-zero h) }
 
-  pub person-more : (x : ℕ) (crowd : List ℕ) → x < 192 → ByPerson class numbered x crowd
+  pub person-more : (x : ℕ) (crowd : List ℕ) → x < classEntries → ByPerson class numbered x crowd
       → ByPerson class numbered (x + 1) (set crowd x (getD numbered (x - x % 64 + getD class x 0 % 64) 0))
   person-more x crowd l w =
       record {
@@ -67,7 +68,7 @@ module _ {people last : ℕ} {class crowd : List ℕ} (few : people ≤ 64) wher
   pub completing-none : Gathered people last class crowd → Completing people last class 0 crowd
   completing-none g = record { above = g; own = λ p h. absurd (not-suc-le-zero h); none = λ p p′ h. absurd (not-suc-le-zero h) }
 
-  pub completing-more : (n word : ℕ) → n < people → last < 3 → Completing people last class n crowd → Added 0 n word
+  pub completing-more : (n word : ℕ) → n < people → last < mostLevels → Completing people last class n crowd → Added 0 n word
       → Completing people last class (n + 1) (set crowd (last * 64 + n) word)
   completing-more n word l deep w joined =
       record {

@@ -13,6 +13,7 @@ use Rattle.bits.specs.Word.{hasBit}
 use Rattle.bits.specs.Set.{Added}
 use Rattle.bits.proofs.Below.{by-cases, true-false}
 use Rattle.bits.proofs.SetLaws.{zero-empty, added-has, added-keeps, added-other}
+use Rattle.bits.specs.Sizes.{mostLevels, classEntries}
 use Rattle.pattern.specs.Tables.{numberIn}
 use Rattle.pattern.specs.Nesting.{partIn, ByNumber}
 use Rattle.pattern.proofs.Nesting.{part-last, part-above}
@@ -22,17 +23,17 @@ use Rattle.levels.specs.Tabled.{Gathered}
 abbrev pub place : List ℕ → ℕ → ℕ
 place class x = x - x % 64 + getD class x 0 % 64
 
-module _ (people levels : ℕ) (few : people ≤ 64) (deep : levels ≤ 3) (class : List ℕ) (part : ℕ → ℕ → ℕ) where
+module _ (people levels : ℕ) (few : people ≤ 64) (deep : levels ≤ mostLevels) (class : List ℕ) (part : ℕ → ℕ → ℕ) where
   pub numbered-all : (x : ℕ) (inside : List ℕ) → x ≤ levels * 64 → levels * 64 ≤ x → ByNumber people levels class part x inside
       → ByNumber people levels class part (levels * 64) inside
   numbered-all x inside l m w = let e : x ≡ levels * 64 = omega arith in subst (λ (y : ℕ). ByNumber people levels class part y inside) e w
 
-  pub numbered-none : ByNumber people levels class part 0 (replicate {A = ℕ} 192 0)
+  pub numbered-none : ByNumber people levels class part 0 (replicate {A = ℕ} classEntries 0)
   numbered-none =
       record {
-        sized = length-replicate {A = ℕ} 192 0;
+        sized = length-replicate {A = ℕ} classEntries 0;
         has = λ b p l m h. absurd (not-suc-le-zero h);
-        only = λ b v w l m h. true-false h (zero-empty (getD (replicate {A = ℕ} 192 0) (b * 64 + v) 0) (getD-replicate {A = ℕ} 192 (b * 64 + v) 0 0 (omega arith)) w);
+        only = λ b v w l m h. true-false h (zero-empty (getD (replicate {A = ℕ} classEntries 0) (b * 64 + v) 0) (getD-replicate {A = ℕ} classEntries (b * 64 + v) 0 0 (omega arith)) w);
       }
 
   module _ (x : ℕ) (inside : List ℕ) (w : ByNumber people levels class part x inside) (below : x < levels * 64) where
@@ -159,7 +160,7 @@ module _ (people levels : ℕ) (few : people ≤ 64) (deep : levels ≤ 3) (clas
 
 -- ---- the two kinds of levels
 
-module _ (people levels : ℕ) (few : people ≤ 64) (deep : levels ≤ 3) (class crowd : List ℕ) (g : Gathered people levels class crowd)
+module _ (people levels : ℕ) (few : people ≤ 64) (deep : levels ≤ mostLevels) (class crowd : List ℕ) (g : Gathered people levels class crowd)
     (x : ℕ) (inside : List ℕ) (w : ByNumber people levels class (partIn levels class) x inside) (below : x < levels * 64) (somebody : x % 64 < people) where
   -- at the last level, the people of the class
   pub nest-people : levels * 64 ≤ x + 64 → ByNumber people levels class (partIn levels class) (x + 1) (set inside (place class x) (getD crowd x 0))

@@ -13,6 +13,7 @@ use Rattle.bits.specs.Word.{hasBit}
 use Rattle.bits.specs.Set.{Added}
 use Rattle.bits.proofs.Below.{by-cases}
 use Rattle.bits.proofs.SetLaws.{added-has, added-keeps}
+use Rattle.bits.specs.Sizes.{mostLevels, levelEntries}
 use Rattle.pattern.specs.Rule.{levelIn}
 use Rattle.levels.specs.Trims.{Keeps, Marks, KeptLevels}
 use Rattle.levels.proofs.Keeping.{keeps-none, keeps-skip, keeps-take}
@@ -23,7 +24,7 @@ marks-more i all level all′ rule e a w k l =
     (λ x. subst (λ (v : ℕ). hasBit all′ (levelIn (getD rule v 0)) ≡ true) (sym (eqb-true k i x)) (subst (λ (v : ℕ). hasBit all′ v ≡ true) e (added-has a)))
     (λ x. let n : k ≡ i → ⊥ = eqb-false k i x in added-keeps a (levelIn (getD rule k 0)) (w k (omega arith)))
 
-pub numbered-none : (m : ℕ) (old new : List ℕ) → length old ≡ 4 → length new ≡ 4 → KeptLevels 0 m 0 old new
+pub numbered-none : (m : ℕ) (old new : List ℕ) → length old ≡ levelEntries → length new ≡ levelEntries → KeptLevels 0 m 0 old new
 numbered-none m old new e f = record { olds = e; news = f; few = omega arith; keeps = keeps-none (hasBit m) _ _ }
 
 module _ {q m n : ℕ} {old new : List ℕ} (w : KeptLevels q m n old new) where
@@ -37,7 +38,7 @@ module _ {q m n : ℕ} {old new : List ℕ} (w : KeptLevels q m n old new) where
             (keeps-skip q n (hasBit m) (λ k. getD old k 0) (λ k. getD new k 0) (subst (λ (k : ℕ). hasBit m k ≡ false) (add-one q) h) (w .keeps));
       }
 
-  pub numbered-take : q < 3 → KeptLevels (q + 1) m (n + 1) (set old (n + 1) (q + 1)) (set new (q + 1) (n + 1))
+  pub numbered-take : q < mostLevels → KeptLevels (q + 1) m (n + 1) (set old (n + 1) (q + 1)) (set new (q + 1) (n + 1))
   numbered-take l =
       record {
         olds = length-set old (n + 1) (q + 1) ∙ w .olds;

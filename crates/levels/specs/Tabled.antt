@@ -6,6 +6,7 @@ use mathlib.Core.Path.{_≡_}
 use Prim.Native.Nat.{ℕ, _+_, _*_, _-_, _%_, _<_}
 use lib.ListN.{length, getD}
 use Rattle.bits.specs.Word.{hasBit}
+use Rattle.bits.specs.Sizes.{classEntries}
 use Rattle.pattern.specs.declared.Size.{Size}
 use Rattle.pattern.specs.Given.{Given, Numbers, Nest}
 use Rattle.pattern.specs.Rule.{scopeIn}
@@ -15,12 +16,12 @@ use Rattle.levels.specs.declared.Tables.{Tables}
 
 -- the first x entries of crowd have the people of the class that stands there
 pub record ByPerson (class numbered : List ℕ) (x : ℕ) (crowd : List ℕ) : Type 0 where
-  pub sized : length crowd ≡ 192
+  pub sized : length crowd ≡ classEntries
   pub each : (y : ℕ) → y < x → getD crowd y 0 ≡ getD numbered (y - y % 64 + getD class y 0 % 64) 0
 
 -- crowd has for each person the people of the same class: 64 masks a level
 pub record Gathered (people levels : ℕ) (class crowd : List ℕ) : Type 0 where
-  pub sized : length crowd ≡ 192
+  pub sized : length crowd ≡ classEntries
   pub has : (b p p′ : ℕ) → b < levels → p < people → p′ < people → getD class (b * 64 + p′) 0 % 64 ≡ getD class (b * 64 + p) 0 % 64
       → hasBit (getD crowd (b * 64 + p) 0) p′ ≡ true
   pub only : (b p p′ : ℕ) → b < levels → p < people → hasBit (getD crowd (b * 64 + p) 0) p′ ≡ true

@@ -5,6 +5,7 @@ use mathlib.Core.Path.{_≡_}
 use Prim.Native.Nat.{ℕ, suc, _%_, _≤_, _<_}
 use lib.ListN.{length, getD}
 use Rattle.bits.specs.Word.{hasBit}
+use Rattle.bits.specs.Sizes.{levelEntries, classEntries}
 use Rattle.workflow.specs.Same.{SamePlans}
 use Rattle.pattern.specs.declared.Size.{Size}
 use Rattle.pattern.specs.Rule.{levelIn, leastIn, mostIn, scopeIn, Packed}
@@ -27,14 +28,14 @@ Marks rules rule marks = (i : ℕ) → i < rules → hasBit marks (levelIn (getD
 
 -- the marked levels, kept in order: level k of n is level old k, and a marked level q is level new q
 pub record KeptLevels (levels marks n : ℕ) (old new : List ℕ) : Type 0 where
-  pub olds : length old ≡ 4
-  pub news : length new ≡ 4
+  pub olds : length old ≡ levelEntries
+  pub news : length new ≡ levelEntries
   pub few : n ≤ levels
   pub keeps : Keeps levels n (hasBit marks) (λ k. getD old k 0) (λ q. getD new q 0)
 
 -- old 1 to old n are levels, in order
 pub record OldLevels (levels n : ℕ) (old : List ℕ) : Type 0 where
-  pub sized : length old ≡ 4
+  pub sized : length old ≡ levelEntries
   pub few : n ≤ levels
   pub from : (k : ℕ) → 1 ≤ k → k ≤ n → 1 ≤ getD old k 0
   pub to : (k : ℕ) → 1 ≤ k → k ≤ n → getD old k 0 ≤ levels
@@ -42,7 +43,7 @@ pub record OldLevels (levels n : ℕ) (old : List ℕ) : Type 0 where
 
 -- the classes of the levels kept
 pub record Rows (n : ℕ) (old class class′ : List ℕ) : Type 0 where
-  pub sized : length class′ ≡ 192
+  pub sized : length class′ ≡ classEntries
   pub each : (k p : ℕ) → 1 ≤ k → k ≤ n → p < 64 → classIn class′ k p ≡ classIn class (getD old k 0) p
 
 -- the first n rules, with their levels in the new numbers

@@ -14,12 +14,13 @@ use pattern::table::alone;
 ghost use mathlib.Core.Path.{_≡_};
 ghost use Prim.Native.Nat.{_≤_};
 ghost use lib.ListN.{length};
+ghost use Rattle.bits.specs.Sizes.{mostLevels, classEntries};
 ghost use Rattle.pattern.specs.Given.{Ruled, ClassTable};
 ghost use Rattle.levels.specs.Tabled.{Gathered, Naming};
 
 // The people of each person's class, gathered by the numbers of the classes.
 fn gather(people: usize, levels: usize, class: &Classes) -> Crowds
-    requires { ⌜ (people ≤ 64) × (levels ≤ 3) × (length (now class) ≡ 192) ⌝ }
+    requires { ⌜ (people ≤ 64) × (levels ≤ mostLevels) × (length (now class) ≡ classEntries) ⌝ }
     ensures { λ r. ⌜ Gathered people levels (now (class .entry)) r ⌝ }
 {
     let mut numbered = [0u64; CLASS_ENTRIES];
@@ -33,7 +34,7 @@ fn gather(people: usize, levels: usize, class: &Classes) -> Crowds
 
 // The people of each person's class. At the last level that is mostly the person alone.
 pub fn crowds(people: usize, levels: usize, class: &Classes) -> Crowds
-    requires { ⌜ (levels ≤ 3) × ClassTable people levels (now class) ⌝ }
+    requires { ⌜ (levels ≤ mostLevels) × ClassTable people levels (now class) ⌝ }
     ensures { λ r. ⌜ Gathered people levels (now (class .entry)) r ⌝ }
 {
     if levels == 0 {

@@ -2,6 +2,7 @@
 use bits::sizes::CLASS_ENTRIES;
 use bits::sizes::Classes;
 use bits::sizes::Crowds;
+use bits::sizes::LEVEL_ENTRIES;
 use bits::sizes::MOST_PEOPLE;
 use bits::sizes::MOST_RULES;
 use bits::sizes::Naming;
@@ -15,6 +16,7 @@ use pattern::rule;
 ghost use mathlib.Core.Path.{_≡_};
 ghost use Prim.Native.Nat.{_≤_};
 ghost use lib.ListN.{length};
+ghost use Rattle.bits.specs.Sizes.{mostLevels, levelEntries, classEntries};
 ghost use Rattle.pattern.specs.Given.{Ruled, Classed};
 ghost use Rattle.levels.specs.Trims.{Marks, KeptLevels, OldLevels, Rows, Renumbered, Trims};
 
@@ -24,8 +26,8 @@ pub mod nest;
 // The levels kept: how many, the old number of each, and the new number of each old one.
 pub struct Numbers {
     pub count: usize,
-    pub old: [u8; 4],
-    pub new: [u8; 4],
+    pub old: [u8; LEVEL_ENTRIES],
+    pub new: [u8; LEVEL_ENTRIES],
 }
 
 // The arrays of a job: its counts, the number and the people of each person's class at each level, the rules
@@ -52,11 +54,11 @@ fn marks(rules: usize, rule: &Rules) -> u16
 
 // Numbers the marked levels.
 fn number(levels: usize, marked: u16) -> Numbers
-    requires { ⌜ levels ≤ 3 ⌝ }
+    requires { ⌜ levels ≤ mostLevels ⌝ }
     ensures { λ r. ⌜ KeptLevels levels marked (r .count) (r .old) (r .new) ⌝ }
 {
-    let mut old = [0u8; 4];
-    let mut new = [0u8; 4];
+    let mut old = [0u8; LEVEL_ENTRIES];
+    let mut new = [0u8; LEVEL_ENTRIES];
     let mut count: usize = 0;
     for q in 0..levels {
         if !has(marked, q + 1) {
@@ -74,8 +76,8 @@ fn number(levels: usize, marked: u16) -> Numbers
 }
 
 // The classes of the levels kept.
-fn rows(levels: usize, count: usize, old: &[u8; 4], class: &Classes) -> Classes
-    requires { ⌜ (levels ≤ 3) × OldLevels levels count (now old) × (length (now class) ≡ 192) ⌝ }
+fn rows(levels: usize, count: usize, old: &[u8; LEVEL_ENTRIES], class: &Classes) -> Classes
+    requires { ⌜ (levels ≤ mostLevels) × OldLevels levels count (now old) × (length (now class) ≡ classEntries) ⌝ }
     ensures { λ r. ⌜ Rows count (now (old .entry)) (now (class .entry)) r ⌝ }
 {
     // All of them.
@@ -92,8 +94,8 @@ fn rows(levels: usize, count: usize, old: &[u8; 4], class: &Classes) -> Classes
 }
 
 // The rules with their levels in the new numbers.
-fn renumber(size: Size, rule: &Rules, new: &[u8; 4]) -> Rules
-    requires { ⌜ Ruled size (now rule) × (length (now new) ≡ 4) ⌝ }
+fn renumber(size: Size, rule: &Rules, new: &[u8; LEVEL_ENTRIES]) -> Rules
+    requires { ⌜ Ruled size (now rule) × (length (now new) ≡ levelEntries) ⌝ }
     ensures { λ r. ⌜ Renumbered (size .rules) (now (rule .entry)) (now (new .entry)) r ⌝ }
 {
     let mut kept = [0u32; MOST_RULES];

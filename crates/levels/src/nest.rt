@@ -8,12 +8,13 @@ use bits::sizes::Nest;
 ghost use mathlib.Core.Path.{_≡_};
 ghost use Prim.Native.Nat.{_*_, _≤_};
 ghost use lib.ListN.{length, replicate};
+ghost use Rattle.bits.specs.Sizes.{mostLevels, classEntries};
 ghost use Rattle.pattern.specs.Nesting.{ByNumber, Nesting};
 ghost use Rattle.levels.specs.Tabled.{Gathered};
 
 // Puts the people of each class at its number into an array of zeros; a number is below 64.
 pub fn by_number(people: usize, levels: usize, class: &Classes, inside: &mut Nest)
-    requires { ⌜ (people ≤ 64) × (levels ≤ 3) × (length (now class) ≡ 192) × (now inside ≡ replicate 192 0) ⌝ }
+    requires { ⌜ (people ≤ 64) × (levels ≤ mostLevels) × (length (now class) ≡ classEntries) × (now inside ≡ replicate classEntries 0) ⌝ }
     ensures { λ _. ⌜ ByNumber people levels (now (class .entry)) (λ b p. p) (levels * 64) (now (inside .exit)) ⌝ }
 {
     for x in 0..levels * MOST_PEOPLE {
@@ -28,7 +29,7 @@ pub fn by_number(people: usize, levels: usize, class: &Classes, inside: &mut Nes
 
 // What lies inside each class: the classes of the next level or, at the last level, the people.
 pub fn nests(people: usize, levels: usize, class: &Classes, crowd: &Crowds) -> Nest
-    requires { ⌜ (people ≤ 64) × (levels ≤ 3) × (length (now class) ≡ 192) × Gathered people levels (now class) (now crowd) ⌝ }
+    requires { ⌜ (people ≤ 64) × (levels ≤ mostLevels) × (length (now class) ≡ classEntries) × Gathered people levels (now class) (now crowd) ⌝ }
     ensures { λ r. ⌜ Nesting people levels (now (class .entry)) r ⌝ }
 {
     let mut inside = [0u64; CLASS_ENTRIES];

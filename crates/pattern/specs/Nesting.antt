@@ -6,6 +6,7 @@ use Prim.Native.Nat.{ℕ, suc, _+_, _*_, _<_}
 use lib.Dec.{leb}
 use lib.ListN.{length, getD}
 use Rattle.bits.specs.Word.{hasBit}
+use Rattle.bits.specs.Sizes.{classEntries}
 use Rattle.pattern.specs.Tables.{numberIn}
 
 -- what p stands for inside a class: the class of the next level or, at the last level, the person
@@ -14,7 +15,7 @@ partIn levels class b p = cond (leb levels (suc b)) p (numberIn class (suc b) p)
 
 -- `inside` has at the number of each class what its people stand for: at least of those whose entry stands before x
 pub record ByNumber (people levels : ℕ) (class : List ℕ) (part : ℕ → ℕ → ℕ) (x : ℕ) (inside : List ℕ) : Type 0 where
-  pub sized : length inside ≡ 192
+  pub sized : length inside ≡ classEntries
   pub has : (b p : ℕ) → b < levels → p < people → b * 64 + p < x → hasBit (getD inside (b * 64 + numberIn class b p) 0) (part b p) ≡ true
   pub only : (b v w : ℕ) → b < levels → v < 64 → hasBit (getD inside (b * 64 + v) 0) w ≡ true
       → (p : ℕ) × (p < people) × (numberIn class b p ≡ v) × (part b p ≡ w)

@@ -1,7 +1,7 @@
 -- The classes with somebody for each step, found from what lies inside each class and level by level. Assumes nothing.
 use mathlib.Core.Bool.{Bool, true}
 use mathlib.Core.List.{List}
-use mathlib.Core.Path.{_≡_, refl, sym, subst, ap, _∙_}
+use mathlib.Core.Path.{_≡_, refl, sym, subst, _∙_}
 use Prim.Native.Nat.{ℕ, suc, _+_, _*_, _/_, _%_, _≤_, _<_}
 use native.Mathlib.Nat.{not-suc-le-zero}
 use native.Mathlib.Omega.{arith}
@@ -16,6 +16,7 @@ use Rattle.bits.proofs.Below.{by-cases, below-suc, true-false}
 use Rattle.bits.proofs.Counting.{and-of}
 use Rattle.bits.proofs.SetLaws.{empty-lacks, zero-empty, and-bit, and-bit-left, and-bit-right, and-apart, added-has, added-keeps, added-other}
 use Rattle.bits.proofs.Masks.{mask-has, mask-in, some-bit}
+use Rattle.bits.specs.Sizes.{mostLevels, labelEntries}
 use Rattle.workflow.specs.Problem.{Job}
 use Rattle.pattern.specs.Given.{ClassTable}
 use Rattle.pattern.specs.Nesting.{partIn, Nesting}
@@ -23,7 +24,6 @@ use Rattle.pattern.specs.Tables.{classIn, numberIn, mayIn}
 use Rattle.pattern.proofs.Nesting.{part-last, part-above, number-is, part-same}
 use Rattle.pattern.proofs.Number.{numbering}
 use Rattle.realize.specs.Parts.{Held, Holding, PartsOf, ReachedFrom, Rising, Reachable, Offers}
-use Rattle.realize.proofs.Masks.{level-at}
 
 -- ---- the classes with one of a set inside
 
@@ -158,7 +158,7 @@ module _ {people levels : ℕ} {class : List ℕ} (table : ClassTable people lev
 -- ---- the table
 
 module _ (people : ℕ) (class may : List ℕ) where
-  pub reached-none : (x z : ℕ) {reach : List ℕ} → z ≤ x → length reach ≡ 36 → ReachedFrom people class may x z reach
+  pub reached-none : (x z : ℕ) {reach : List ℕ} → z ≤ x → length reach ≡ labelEntries → ReachedFrom people class may x z reach
   reached-none x z l e = record { sized = e; each = λ y h k. absurd (omega arith) }
 
   pub reached-from : (x x′ z : ℕ) {reach : List ℕ} → x ≤ x′ → ReachedFrom people class may x z reach → ReachedFrom people class may x′ z reach
@@ -189,7 +189,7 @@ module _ (people : ℕ) (class may : List ℕ) where
         (w .below .each (q * 12 + s + 12) (omega arith) (omega arith)))
 
     -- the next entry
-    pub rising-more : (s row : ℕ) (reach : List ℕ) → q < 3 → s < 12 → Rising people levels class may q s reach
+    pub rising-more : (s row : ℕ) (reach : List ℕ) → q < mostLevels → s < 12 → Rising people levels class may q s reach
         → PartsOf people (mayIn may s) (numberIn class q) row → Rising people levels class may q (s + 1) (set reach (q * 12 + s) row)
     rising-more s row reach d l w parts =
         record {

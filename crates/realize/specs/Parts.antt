@@ -8,6 +8,7 @@ use lib.Dec.{ltb}
 use lib.ListN.{length, getD}
 use Rattle.bits.specs.Set.{Mask}
 use Rattle.bits.specs.Word.{hasBit}
+use Rattle.bits.specs.Sizes.{mostLevels, classEntries, labelEntries}
 use Rattle.workflow.specs.Problem.{Job, Plan}
 use Rattle.pattern.specs.Pattern.{Label, Labelled, Consistent, Refining, Pattern}
 use Rattle.pattern.specs.Tables.{numberIn, mayIn, labelIn}
@@ -16,11 +17,11 @@ use Rattle.realize.specs.declared.parts.Task.{Task}
 
 -- the arrays have their sizes, and the steps are numbered below 12
 pub record ArraysSized (levels : ℕ) (may label nest reach : List ℕ) (steps : ℕ) : Type 0 where
-  pub deep : levels ≤ 3
+  pub deep : levels ≤ mostLevels
   pub masks : length may ≡ 12
-  pub labels : length label ≡ 36
-  pub nests : length nest ≡ 192
-  pub reaches : length reach ≡ 36
+  pub labels : length label ≡ labelEntries
+  pub nests : length nest ≡ classEntries
+  pub reaches : length reach ≡ labelEntries
   pub below : steps < 4096
 
 -- ---- what the recursion is asked
@@ -78,7 +79,7 @@ pub record PartsOf (people : ℕ) (test : ℕ → Bool) (part : ℕ → ℕ) (m 
 
 -- reach has for each step the numbers of the classes of those who may do it, in the entries from x and before z
 pub record ReachedFrom (people : ℕ) (class may : List ℕ) (x z : ℕ) (reach : List ℕ) : Type 0 where
-  pub sized : length reach ≡ 36
+  pub sized : length reach ≡ labelEntries
   pub each : (y : ℕ) → x ≤ y → y < z → PartsOf people (mayIn may (y % 12)) (numberIn class (y / 12)) (getD reach y 0)
 
 -- the same at level q + 1 for the steps before s, and at the levels below it
@@ -88,14 +89,14 @@ pub record Rising (people levels : ℕ) (class may : List ℕ) (q s : ℕ) (reac
 
 -- reach has for each step the numbers of the classes of those who may do it, in the entries before x: 12 masks a level
 pub record Reachable (people : ℕ) (class may : List ℕ) (x : ℕ) (reach : List ℕ) : Type 0 where
-  pub sized : length reach ≡ 36
+  pub sized : length reach ≡ labelEntries
   pub has : (y p : ℕ) → y < x → p < people → mayIn may (y % 12) p ≡ true → hasBit (getD reach y 0) (numberIn class (y / 12) p) ≡ true
   pub only : (y v : ℕ) → y < x → hasBit (getD reach y 0) v ≡ true
       → (p : ℕ) × (p < people) × (mayIn may (y % 12) p ≡ true) × (numberIn class (y / 12) p ≡ v)
 
 -- reach has for each step the classes of the job with somebody who may do it
 pub record Offers (j : Job) (may reach : List ℕ) : Type 0 where
-  pub sized : length reach ≡ 36
+  pub sized : length reach ≡ labelEntries
   pub has : (q s p : ℕ) → q < j .levels → s < 12 → p < j .people → mayIn may s p ≡ true
       → hasBit (getD reach (q * 12 + s) 0) (j .class (suc q) p) ≡ true
   pub only : (q s v : ℕ) → q < j .levels → s < 12 → hasBit (getD reach (q * 12 + s) 0) v ≡ true

@@ -19,6 +19,7 @@ ghost use lib.ListN.{length};
 ghost use Rattle.bits.specs.Word.{hasBit};
 ghost use Rattle.pattern.specs.Tables.{mayIn};
 ghost use Rattle.bits.specs.Says.{Says};
+ghost use Rattle.bits.specs.Sizes.{mostLevels, labelEntries};
 ghost use Rattle.realize.specs.Parts.{ArraysSized};
 ghost use Rattle.realize.specs.Decision.{Staffing, Decided, Candidates, Hosted, Covering};
 
@@ -41,7 +42,7 @@ fn staffed(may: &Domains, steps: u16, people: u64) -> bool
 
 // Those classes of `inside`, of level `q` + 1, that have somebody for each step of a group.
 fn candidates(reach: &Reach, q: usize, group: u16, inside: u64) -> u64
-    requires { ⌜ (length (now reach) ≡ 36) × (q < 3) × (group < 4096) ⌝ }
+    requires { ⌜ (length (now reach) ≡ labelEntries) × (q < mostLevels) × (group < 4096) ⌝ }
     ensures { λ r. ⌜ Candidates (now (reach .entry)) q group inside 0 r ⌝ }
 {
     let mut found = inside;

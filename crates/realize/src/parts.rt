@@ -11,6 +11,7 @@ ghost use Rattle.bits.specs.Word.{hasBit};
 ghost use Rattle.pattern.specs.Tables.{labelIn};
 ghost use Rattle.pattern.specs.Realize.{fibre, groups};
 ghost use Rattle.bits.specs.Set.{Mask};
+ghost use Rattle.bits.specs.Sizes.{mostLevels, labelEntries};
 
 // The steps are to go to the classes of level `q` + 1 that are inside, or after the last level to the people, with
 // the labels of the levels below `q`.
@@ -34,7 +35,7 @@ fn wanted(own: bool, s: usize, g: u8) -> u8
 
 // Those of `steps` that have the label looked for at level `q` + 1.
 fn labelled(label: &Labels, q: usize, steps: u16, own: bool, g: u8) -> u16
-    requires { ⌜ (length (now label) ≡ 36) × (q < 3) × (steps < 4096) ⌝ }
+    requires { ⌜ (length (now label) ≡ labelEntries) × (q < mostLevels) × (steps < 4096) ⌝ }
     ensures { λ r. ⌜ Mask (λ s. hasBit steps s && eqb (labelIn (now (label .entry)) (suc q) s) (cond own s g)) r ⌝ }
 {
     let mut found: u16 = 0;
@@ -53,7 +54,7 @@ fn labelled(label: &Labels, q: usize, steps: u16, own: bool, g: u8) -> u16
 
 // Those of `steps` that have the label `g` at level `q` + 1.
 pub fn members(label: &Labels, q: usize, g: u8, steps: u16) -> u16
-    requires { ⌜ (length (now label) ≡ 36) × (q < 3) × (steps < 4096) ⌝ }
+    requires { ⌜ (length (now label) ≡ labelEntries) × (q < mostLevels) × (steps < 4096) ⌝ }
     ensures { λ r. ⌜ Mask (fibre (hasBit steps) (labelIn (now (label .entry)) (suc q)) g) r ⌝ }
 {
     labelled(label, q, steps, false, g)
@@ -61,7 +62,7 @@ pub fn members(label: &Labels, q: usize, g: u8, steps: u16) -> u16
 
 // The groups of level `q` + 1 inside `steps`: each is named by its label, which is one of its steps.
 pub fn groups_of(label: &Labels, q: usize, steps: u16) -> u16
-    requires { ⌜ (length (now label) ≡ 36) × (q < 3) × (steps < 4096) ⌝ }
+    requires { ⌜ (length (now label) ≡ labelEntries) × (q < mostLevels) × (steps < 4096) ⌝ }
     ensures { λ r. ⌜ Mask (groups (hasBit steps) (labelIn (now (label .entry)) (suc q))) r ⌝ }
 {
     labelled(label, q, steps, true, 0)

@@ -11,13 +11,14 @@ use pattern::table::alone;
 ghost use mathlib.Core.Path.{_≡_};
 ghost use Prim.Native.Nat.{_+_, _*_, _≤_, _<_};
 ghost use lib.ListN.{length};
+ghost use Rattle.bits.specs.Sizes.{mostLevels, classEntries};
 ghost use Rattle.pattern.specs.Given.{ClassTable};
 ghost use Rattle.pattern.specs.Nesting.{Nesting};
 ghost use Rattle.realize.specs.Parts.{Holding, ReachedFrom, Reachable};
 
 // Those classes of level `q` + 1 that have one of `these` inside: classes of the next level or, at the last level, people.
 fn holding(nest: &Nest, q: usize, these: u64) -> u64
-    requires { ⌜ (length (now nest) ≡ 192) × (q < 3) ⌝ }
+    requires { ⌜ (length (now nest) ≡ classEntries) × (q < mostLevels) ⌝ }
     ensures { λ r. ⌜ Holding (now (nest .entry)) q these r ⌝ }
 {
     let mut found: u64 = 0;
@@ -46,7 +47,7 @@ fn level_reach(
     q: usize,
     reach: &mut Reach,
 )
-    requires { ⌜ (levels ≤ 3) × ClassTable people levels (now class) × Nesting people levels (now class) (now nest) × (length (now may) ≡ 12) × (q < levels)
+    requires { ⌜ (levels ≤ mostLevels) × ClassTable people levels (now class) × Nesting people levels (now class) (now nest) × (length (now may) ≡ 12) × (q < levels)
         × ReachedFrom people (now class) (now may) ((q + 1) * 12) (levels * 12) (now reach) ⌝ }
     ensures { λ _. ⌜ ReachedFrom people (now (class .entry)) (now (may .entry)) (q * 12) (levels * 12) (now (reach .exit)) ⌝ }
 {
@@ -69,7 +70,7 @@ fn level_reach(
 
 // The classes that have somebody permitted each step: 12 masks a level, from the last level up.
 pub fn reaches(people: usize, levels: usize, class: &Classes, nest: &Nest, may: &Domains) -> Reach
-    requires { ⌜ (levels ≤ 3) × ClassTable people levels (now class) × Nesting people levels (now class) (now nest) × (length (now may) ≡ 12) ⌝ }
+    requires { ⌜ (levels ≤ mostLevels) × ClassTable people levels (now class) × Nesting people levels (now class) (now nest) × (length (now may) ≡ 12) ⌝ }
     ensures { λ r. ⌜ Reachable people (now (class .entry)) (now (may .entry)) (levels * 12) r ⌝ }
 {
     let mut reach = [0u64; LABEL_ENTRIES];

@@ -5,6 +5,7 @@ use Prim.Native.Nat.{ℕ, _^_, _≤_, _<_}
 use lib.ListN.{length, getD}
 use Rattle.bits.specs.Below.{count}
 use Rattle.bits.specs.Word.{hasBit}
+use Rattle.bits.specs.Sizes.{mostLevels, classEntries}
 use Rattle.workflow.specs.Problem.{May, Plan, Valid, InBounds, RuleOk, distinct}
 use Rattle.pattern.specs.declared.Size.{Size}
 use Rattle.pattern.specs.Given.{Classed}
@@ -16,8 +17,8 @@ use Rattle.relax.specs.Bound.{Nests}
 pub record Carriable (size : Size) (class : List ℕ) (r q : ℕ) : Type 0 where
   pub few-steps : size .steps ≤ 12
   pub few-people : size .people ≤ 64
-  pub few-levels : size .levels ≤ 3
-  pub classes : length class ≡ 192
+  pub few-levels : size .levels ≤ mostLevels
+  pub classes : length class ≡ classEntries
   pub nests : (a b : ℕ) → 1 ≤ a → a ≤ b → b ≤ size .levels → Nests (size .people) (classIn class a) (classIn class b)
   pub scope : scopeIn r < 2 ^ size .steps
   pub rule-ok : RuleOk (size .steps) (size .levels) (unpacked r)

@@ -5,6 +5,7 @@ use bits::sizes::MOST_PEOPLE;
 ghost use mathlib.Core.Path.{_≡_};
 ghost use Prim.Native.Nat.{_-_, _≤_};
 ghost use lib.ListN.{length};
+ghost use Rattle.bits.specs.Sizes.{mostLevels, classEntries};
 ghost use Rattle.pattern.specs.Tables.{classIn};
 ghost use Rattle.relax.specs.Bound.{Nests, Counted, together, Needs};
 
@@ -19,7 +20,7 @@ pub struct Ranked {
 
 // The fine classes, counted by rank.
 pub fn ranks(people: usize, class: &Classes, coarse: usize, fine: usize) -> Ranked
-    requires { ⌜ (people ≤ 64) × (length (now class) ≡ 192) × (1 ≤ coarse) × (coarse ≤ 3) × (1 ≤ fine) × (fine ≤ 3)
+    requires { ⌜ (people ≤ 64) × (length (now class) ≡ classEntries) × (1 ≤ coarse) × (coarse ≤ mostLevels) × (1 ≤ fine) × (fine ≤ mostLevels)
         × Nests people (classIn (now class) coarse) (classIn (now class) fine) ⌝ }
     ensures { λ r. ⌜ Counted people (classIn (now (class .entry)) coarse) (classIn (now (class .entry)) fine) (r .classes) (r .counts) ⌝ }
 {

@@ -7,11 +7,14 @@ use native.Mathlib.Omega.{arith}
 use lib.Dec.{eqb, ltb}
 use lib.ListN.{length, getD, length-map, length-replicate, List·getD-map}
 use lib.Seq.{ext-getD}
+use Rattle.bits.specs.Columns.{columnOf}
+use Rattle.bits.specs.Sizes.{mostClassLevels}
 use Rattle.bits.specs.Word.{hasBit}
-use Rattle.card.specs.Fields.{tagOf, shopOf, benchOf, permittedOf, skippedOf, ruleKindOf, levelOf, limitOf, scopeOf}
+use Rattle.card.specs.Fields.{classLevels, tagOf, levelsIn, classOf, permittedOf, skippedOf, ruleKindOf, levelOf, limitOf, scopeOf}
+use Rattle.sheet.proofs.Columns.{classes-level}
 use Rattle.sheet.proofs.Fill.{getD-table, length-table}
 use Rattle.sheet.proofs.Passes.{sheet-passes}
-use Rattle.sheet.proofs.Readable.{readable-job, read-sheet-job}
+use Rattle.sheet.proofs.Readable.{readable-job, read-sheet-job, sheet-levels}
 use Rattle.sheet.specs.Answer.{answer, jobOf, sheetOf, table}
 use Rattle.sheet.specs.Read.{Read, job, fault, readSheet}
 use Rattle.sheet.specs.Readable.{ReadableJob, ReadSheet}
@@ -51,13 +54,14 @@ readable-left {people} {steps} {rules} {j} r =
       people-most = r .people-most;
       steps-most = few;
       rules-most = r .rules-most;
+      levels-some = r .levels-some;
+      levels-most = r .levels-most;
       sized =
           record {
             person-tag = z .person-tag;
             step-tag = length-table 12 (λ t. getD (j .«step_tag») t 0) kept few;
             skipped = length-replicate {A = ℕ} 64 0;
-            shop = z .shop;
-            bench = z .bench;
+            class = z .class;
             permitted = length-map (j .permitted) (gather kept) ∙ z .permitted;
             scope = length-map (j .«rule_scope») (gather kept) ∙ z .scope;
             kind = z .kind;
@@ -68,8 +72,7 @@ readable-left {people} {steps} {rules} {j} r =
           let f = r .person p l in
           record {
             tag = f .tag;
-            shop = f .shop;
-            bench = f .bench;
+            class = f .class;
             permitted = gathered-small kept (j .permitted) p;
           };
       step-tag = λ k l. subst (λ (v : ℕ). 0 < v) (sym (tag k l)) (r .step-tag (getD kept k 0) (kept-below skipped steps k l));
@@ -145,13 +148,15 @@ module _ (s people steps rules : List ℕ) where
   unfolding jobOver jobOf
   person-tag-left p l = getD-table 64 (tagOf s) people p l
 
-  pub shop-left : (p : ℕ) → p < length people → getD (jobLeft s people steps rules .shop) p 0 ≡ shopOf s (getD people p 0)
+  pub levels-left : jobLeft s people steps rules .levels ≡ levelsIn s
   unfolding jobOver jobOf
-  shop-left p l = getD-table 64 (shopOf s) people p l
+  levels-left = refl
 
-  pub bench-left : (p : ℕ) → p < length people → getD (jobLeft s people steps rules .bench) p 0 ≡ benchOf s (getD people p 0)
+  -- the classes of each class level
+  pub column-left : length people ≤ 64 → classLevels s ≤ mostClassLevels → (q : ℕ) → 1 ≤ q → q ≤ classLevels s
+      → columnOf (jobLeft s people steps rules .class) q ≡ table 64 (classOf s q) people
   unfolding jobOver jobOf
-  bench-left p l = getD-table 64 (benchOf s) people p l
+  column-left few deep q l m = classes-level s people few deep q l m
 
   pub kind-left : (i : ℕ) → i < length rules → getD (jobLeft s people steps rules .«rule_kind») i 0 ≡ ruleKindOf s (getD rules i 0)
   unfolding jobOver jobOf
@@ -184,7 +189,7 @@ module _ (s steps : List ℕ) (none : (t : ℕ) → t < length steps → skipped
 pub readable-in : (s people steps rules : List ℕ) → readSheet s ≡ job people steps rules
     → ReadableJob (length people) (length (stepsLeft s steps)) (length rules) (jobLeft s people steps rules)
 readable-in s people steps rules e =
-    let r = readable-job s people steps rules (length s / 16) (sheet-passes s people steps rules e .rest) in
+    let r = readable-job s people steps rules (length s / 16) (sheet-passes s people steps rules e .rest) (sheet-levels s people steps rules e) in
     subst (λ (n : ℕ). ReadableJob (length people) n (length rules) (jobLeft s people steps rules)) (sym (steps-left-length s steps))
     (subst (λ (l : List ℕ). ReadableJob (length people) (length l) (length rules) (jobOver l (jobOf s people steps rules))) (kept-in s people steps rules)
     (readable-left r))

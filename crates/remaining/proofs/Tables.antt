@@ -9,7 +9,7 @@ use lib.ListN.{length, getD, take, replicate, length-map, length-replicate}
 use lib.Seq.{ext-getD, take-all}
 use borrow.Author.Tests.{ltb-true, ltb-false}
 use Rattle.bits.proofs.Below.{by-cases}
-use Rattle.sheet.proofs.Fill.{getD-table, length-table}
+use Rattle.sheet.proofs.Fill.{getD-table, getD-table-past, getD-zeros, length-table}
 use Rattle.sheet.specs.Answer.{table, zeros}
 
 -- an entry that is there
@@ -28,28 +28,13 @@ table-full size f l e =
     ∙ ap (λ (x : ℕ). map f l ++ replicate x 0) n
     ∙ append-nil (map f l)
 
--- zeros after the last
-getD-zeros : (n k : ℕ) → getD (zeros n) k 0 ≡ 0
-getD-zeros zero k = refl
-getD-zeros (suc n) zero = refl
-getD-zeros (suc n) (suc k) = getD-zeros n k
-
-pub table-after : (size : ℕ) (f : ℕ → ℕ) (l : List ℕ) (k : ℕ) → length l ≤ k → getD (table size f l) k 0 ≡ 0
-unfolding table
-table-after size f l k h = after l (size - length l) k h
-  where
-    after : (l : List ℕ) (n k : ℕ) → length l ≤ k → getD (map f l ++ zeros n) k 0 ≡ 0
-    after [] n k h = getD-zeros n k
-    after (x ∷ l) n zero h = absurd (not-suc-le-zero h)
-    after (x ∷ l) n (suc k) h = after l n k (le-of-suc-le-suc h)
-
 -- what holds of every card's field and of 0 holds of every entry
 pub table-each : (P : ℕ → Type 0) (size : ℕ) (f : ℕ → ℕ) (l : List ℕ) → P 0 → ((k : ℕ) → k < length l → P (f (getD l k 0)))
     → (k : ℕ) → P (getD (table size f l) k 0)
 table-each P size f l z h k =
     by-cases (ltb k (length l))
     (λ t. let m = ltb-true k (length l) t in subst P (sym (getD-table size f l k m)) (h k m))
-    (λ t. subst P (sym (table-after size f l k (ltb-false k (length l) t))) z)
+    (λ t. subst P (sym (getD-table-past size f l k (ltb-false k (length l) t))) z)
 
 -- a change that leaves every entry as it is
 pub map-same : (g : ℕ → ℕ) (l : List ℕ) → ((k : ℕ) → k < length l → g (getD l k 0) ≡ getD l k 0) → map g l ≡ l
@@ -75,4 +60,4 @@ table-same size f g l m e few h =
     getD-table size f l k (omega arith) ∙ h k i ∙ sym (getD-table size g m k i))
     (λ t.
     let o = ltb-false k (length m) t in
-    table-after size f l k (omega arith) ∙ sym (table-after size g m k o)))
+    getD-table-past size f l k (omega arith) ∙ sym (getD-table-past size g m k o)))

@@ -62,11 +62,11 @@ module _ (s people steps rules : List ℕ) (read : readSheet s ≡ job people st
       let j = jobOf s people steps rules in
       λ i.
       record {
+        levels = j .levels;
         «person_tag» = j .«person_tag»;
         «step_tag» = tags-stay i;
         skipped = marks i;
-        shop = j .shop;
-        bench = j .bench;
+        class = j .class;
         permitted = permitted i;
         «rule_scope» = scopes i;
         «rule_kind» = j .«rule_kind»;

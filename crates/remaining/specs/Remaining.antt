@@ -16,11 +16,11 @@ use Rattle.remaining.specs.Kept.{keptBelow, gather}
 unfoldable pub jobOver : List ℕ → SheetJob → SheetJob
 jobOver kept j =
     record {
+      levels = j .levels;
       «person_tag» = j .«person_tag»;
       «step_tag» = table 12 (λ t. getD (j .«step_tag») t 0) kept;
       skipped = zeros 64;
-      shop = j .shop;
-      bench = j .bench;
+      class = j .class;
       permitted = map (gather kept) (j .permitted);
       «rule_scope» = map (gather kept) (j .«rule_scope»);
       «rule_kind» = j .«rule_kind»;

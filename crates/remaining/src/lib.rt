@@ -83,11 +83,11 @@ fn job_over(job: SheetJob, step: &[u8; MOST_STEPS], count: usize) -> SheetJob
     ensures { λ r. ⌜ r ≡ jobOver (take count (now (step .entry))) job ⌝ }
 {
     SheetJob {
+        levels: job.levels,
         person_tag: job.person_tag,
         step_tag: tags_left(&job.step_tag, step, count),
         skipped: [0; MOST_CHAIN],
-        shop: job.shop,
-        bench: job.bench,
+        class: job.class,
         permitted: sets_left(&job.permitted, step, count),
         rule_scope: sets_left(&job.rule_scope, step, count),
         rule_kind: job.rule_kind,

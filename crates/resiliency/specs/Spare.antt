@@ -7,6 +7,7 @@ use lib.ListN.{length, drop, getD}
 use Rattle.remaining.specs.Remaining.{stepsLeft, jobLeft}
 use Rattle.sheet.specs.Read.{Read, job, fault, readSheet}
 use Rattle.sheet.specs.declared.SheetJob as sheet
+use Rattle.workflow.specs.Problem.{Job}
 use Rattle.instance.specs.Instance.{instanceOf, mayOf}
 use Rattle.answer.specs.Bytes.{Outcome, refused, written}
 use Rattle.card.specs.Refusals.{shortFault, capFault, planFault}
@@ -37,11 +38,15 @@ spareBytes tags cap buffer unsatisfiable = refused planFault 0 buffer
 spareBytes tags cap buffer capped = countBytes tags cap [] buffer
 spareBytes tags cap buffer (broken t away) = countBytes tags t away buffer
 
--- of a job with these counts: "1: answer buffer too short (.. 16 for spare)", then the spare count
-unfoldable pub spareOf : ℕ → ℕ → ℕ → ℕ → sheet.SheetJob → List ℕ → Outcome
-spareOf cap people steps rules j buffer =
-    let count : Outcome = spareBytes (j .«person_tag») cap buffer (spare (instanceOf people steps rules j) (mayOf j) cap) in
+-- of a job that poses a problem: "1: answer buffer too short (.. 16 for spare)", then the spare count
+abbrev pub spareFor : ℕ → Job → sheet.SheetJob → List ℕ → Outcome
+spareFor cap problem j buffer =
+    let count : Outcome = spareBytes (j .«person_tag») cap buffer (spare problem (mayOf j) cap) in
     cond (ltb (length buffer) spareSize) (refused shortFault 0 buffer) count
+
+-- of a job with these counts
+unfoldable pub spareOf : ℕ → ℕ → ℕ → ℕ → sheet.SheetJob → List ℕ → Outcome
+spareOf cap people steps rules j buffer = spareFor cap (instanceOf people steps rules j) j buffer
 
 -- of what was read: "A refusal of the reader is passed up with its card."
 unfoldable pub spareRead : ℕ → List ℕ → List ℕ → Read → Outcome

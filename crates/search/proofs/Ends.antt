@@ -26,6 +26,7 @@ use Rattle.bits.specs.Says.{Says}
 use Rattle.bits.specs.Set.{Mask}
 use Rattle.bits.proofs.Masks.{mask-has, mask-in}
 use Rattle.bits.proofs.Says.{says-true, says-false}
+use Rattle.bits.specs.Sizes.{labelEntries}
 use Rattle.pattern.specs.Pattern.{Refining}
 use Rattle.pattern.proofs.Given.{searchable}
 use Rattle.pattern.proofs.Nested.{nested-refining}
@@ -45,10 +46,10 @@ all-below {n} mask i h = ltb-true i n (mask-in mask i h)
 
 -- no labels yet
 abbrev pub blank : List ℕ
-blank = replicate {A = ℕ} 36 0
+blank = replicate {A = ℕ} labelEntries 0
 
 module _ (j : Job) (may : May) (label : List ℕ) where
-  pub nothing-patterned : length label ≡ 36 → Patterned j 0 label
+  pub nothing-patterned : length label ≡ labelEntries → Patterned j 0 label
   nothing-patterned e =
       record {
         sized = e;
@@ -131,10 +132,10 @@ module _ {size : Size} {class : ℕ → ℕ → ℕ} {rule : List ℕ} (ruled : 
         kept = λ t. refl;
       }
 
-  pub start-patterned : (label : List ℕ) → length label ≡ 36 → Patterned (jobWith size class rule) 0 label
+  pub start-patterned : (label : List ℕ) → length label ≡ labelEntries → Patterned (jobWith size class rule) 0 label
   start-patterned label e = nothing-patterned (jobWith size class rule) (mayIn may) label e
 
-  pub reached-start : (rest : ℕ) (of label : List ℕ) → length label ≡ 36 → (all : ℕ) → Mask (λ i. ltb i (size .rules)) all → (r : Bool)
+  pub reached-start : (rest : ℕ) (of label : List ℕ) → length label ≡ labelEntries → (all : ℕ) → Mask (λ i. ltb i (size .rules)) all → (r : Bool)
       → ForSteps all rule (λ steps. Says r (Among steps all rule 0 label)) → not r ≡ false → Naming (size .rules) rule of → Named (size .steps) of rest
       → Reached (jobWith size class rule) (mayIn may) 0 rest label
   reached-start rest of label e all mask r says f naming n =
@@ -174,7 +175,7 @@ module _ {size : Size} {nest rule : List ℕ} (given : Nest size nest rule) (may
 
   pub finished-sized : {rest : ℕ} {label last reach : List ℕ} (r : Bool) → length may ≡ 12
       → FindOutcome (nestedJob size nest rule) (mayIn may) 0 rest label last r → not r ≡ false
-      → length reach ≡ 36 → ArraysSized (size .levels) may last nest reach rest
+      → length reach ≡ labelEntries → ArraysSized (size .levels) may last nest reach rest
   finished-sized {rest} {label} {last} r e o f w = sized (given .ruled) may rest last e (finished r o f .patterned) (given .sized) w
 
   pub existence-won : {reach : List ℕ} → Offers (nestedJob size nest rule) may reach → {rest : ℕ} {label last plan plan′ : List ℕ}

@@ -12,6 +12,7 @@ use Rattle.bits.specs.Word.{hasBit}
 use Rattle.bits.proofs.Below.{by-cases, true-false}
 use Rattle.bits.specs.Says.{Says}
 use Rattle.bits.proofs.Says.{says-of}
+use Rattle.bits.specs.Sizes.{mostLevels, labelEntries}
 use Rattle.pattern.specs.Place.{grown}
 use Rattle.pattern.specs.Tables.{labelIn}
 use Rattle.pattern.proofs.Place.{grown-old, grown-joined, grown-apart}
@@ -32,14 +33,14 @@ module _ (placed : ℕ) (label : List ℕ) (t d : ℕ) where
 
 -- the levels down to q are written
 pub record Growing (s t d q : ℕ) (label label′ : List ℕ) : Type 0 where
-  pub sized : length label′ ≡ 36
+  pub sized : length label′ ≡ labelEntries
   pub done : (r u : ℕ) → 1 ≤ r → r ≤ q → u < 12 → labelIn label′ r u ≡ grown (labelIn label) s t d r u
-  pub left : (r u : ℕ) → q < r → r ≤ 3 → u < 12 → labelIn label′ r u ≡ labelIn label r u
+  pub left : (r u : ℕ) → q < r → r ≤ mostLevels → u < 12 → labelIn label′ r u ≡ labelIn label r u
 
-pub growing-none : (s t d : ℕ) (label : List ℕ) → length label ≡ 36 → Growing s t d 0 label label
+pub growing-none : (s t d : ℕ) (label : List ℕ) → length label ≡ labelEntries → Growing s t d 0 label label
 growing-none s t d label e = record { sized = e; done = λ r u a b l. absurd (omega arith); left = λ r u a b l. refl }
 
-module _ (s t d q : ℕ) (label label′ : List ℕ) (v : ℕ) (new : s < 12) (old : t < 12) (below : q < 3) (w : Growing s t d q label label′)
+module _ (s t d q : ℕ) (label label′ : List ℕ) (v : ℕ) (new : s < 12) (old : t < 12) (below : q < mostLevels) (w : Growing s t d q label label′)
     (is : v ≡ cond (ltb q d) (getD label′ (q * 12 + t) 0) s) where
   elsewhere : (r u : ℕ) → ((r - 1) * 12 + u ≡ q * 12 + s → ⊥) → labelIn (set label′ (q * 12 + s) v) r u ≡ labelIn label′ r u
   elsewhere r u h = getD-set-other label′ (q * 12 + s) ((r - 1) * 12 + u) v 0 h

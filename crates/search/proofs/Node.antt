@@ -24,6 +24,7 @@ use Rattle.pattern.proofs.Counted.{open-count-outside, group-count-outside}
 use Rattle.pattern.proofs.Search.{exists-realized, exists-possible}
 use Rattle.bits.specs.Says.{Says}
 use Rattle.bits.proofs.Says.{says-true, says-false}
+use Rattle.bits.specs.Sizes.{mostLevels, classEntries, labelEntries}
 use Rattle.eligible.specs.Rules.{RulesReady, ForSteps, Among}
 use Rattle.pattern.proofs.Given.{searchable}
 use Rattle.pattern.proofs.Nested.{nested-last, nested-refining}
@@ -59,7 +60,7 @@ module _ {size : Size} {class : ℕ → ℕ → ℕ} {rule : List ℕ} (ruled : 
             };
       }
 
-  pub sized : {nest reach : List ℕ} → length may ≡ 12 → Patterned (jobWith size class rule) placed label → length nest ≡ 192 → length reach ≡ 36
+  pub sized : {nest reach : List ℕ} → length may ≡ 12 → Patterned (jobWith size class rule) placed label → length nest ≡ classEntries → length reach ≡ labelEntries
       → ArraysSized (size .levels) may label nest reach placed
   sized masks p n w =
       record {
@@ -134,11 +135,11 @@ possible-outside steps levels placed label pattern s below unplaced r ok t d way
     record { most = omega (arith, w .most); least = omega (arith, w .least) }
 
 -- what is asked of the group that a way joins, and of the classes
-module _ {j : Job} {placed next s w : ℕ} {label : List ℕ} (g : Growable j placed next s w label) (few : j .levels ≤ 3) where
-  pub joinable : (partner w < 12) × (depth w ≤ 3) × (length label ≡ 36)
+module _ {j : Job} {placed next s w : ℕ} {label : List ℕ} (g : Growable j placed next s w label) (few : j .levels ≤ mostLevels) where
+  pub joinable : (partner w < 12) × (depth w ≤ mostLevels) × (length label ≡ labelEntries)
   joinable = (omega arith, omega (arith, g .way), g .patterned .sized)
 
-  pub meetable : (reach : List ℕ) → j .steps ≤ 12 → length reach ≡ 36 → (depth w ≤ 3) × (s < 12) × (partner w < 12) × (length reach ≡ 36)
+  pub meetable : (reach : List ℕ) → j .steps ≤ 12 → length reach ≡ labelEntries → (depth w ≤ mostLevels) × (s < 12) × (partner w < 12) × (length reach ≡ labelEntries)
   meetable reach most e = (omega (arith, g .way), omega (arith, g .below), omega arith, e)
 
 module _ {j : Job} {placed next s w : ℕ} {label : List ℕ} (g : Growable j placed next s w label) (may : May) (few : j .steps ≤ 12) where
@@ -159,7 +160,7 @@ module _ {j : Job} {placed next s w : ℕ} {label : List ℕ} (g : Growable j pl
   grew-unjoined r says f = grew-not (λ x y. says-false r (Joins placed label (partner w) (depth w)) says (not-true r f) x)
 
   module _ (joined : Joins placed label (partner w) (depth w)) where
-    pub placeable : j .levels ≤ 3 → Placeable (j .levels) s (partner w) label
+    pub placeable : j .levels ≤ mostLevels → Placeable (j .levels) s (partner w) label
     placeable l =
         record {
           few = l;

@@ -7,6 +7,7 @@ use Prim.Native.Nat.{ℕ, _+_, _*_, _/_, _%_, _≤_, _<_}
 use lib.ListN.{length}
 use Rattle.bits.specs.Word.{hasBit}
 use Rattle.bits.specs.Set.{Added}
+use Rattle.bits.specs.Sizes.{labelEntries}
 use Rattle.workflow.specs.Problem.{Job, May}
 use Rattle.pattern.specs.Pattern.{Pattern}
 use Rattle.pattern.specs.Place.{withStep, grown}
@@ -18,7 +19,7 @@ use Rattle.search.specs.Growth.{Joins}
 
 -- the labels are a pattern of the placed steps
 pub record Patterned (j : Job) (placed : ℕ) (label : List ℕ) : Type 0 where
-  pub sized : length label ≡ 36
+  pub sized : length label ≡ labelEntries
   pub pattern : Pattern (j .steps) (j .levels) (hasBit placed) (labelIn label)
   pub inside : (s : ℕ) → hasBit placed s ≡ true → s < j .steps
 
@@ -62,7 +63,7 @@ pub record Completed (j : Job) (may : May) (placed rest : ℕ) (label : List ℕ
 
 -- what the search comes to
 pub record FindOutcome (j : Job) (may : May) (placed rest : ℕ) (label label′ : List ℕ) (r : Bool) : Type 0 where
-  pub sized : length label′ ≡ 36
+  pub sized : length label′ ≡ labelEntries
   pub won : r ≡ true → Completed j may placed rest label′
   pub lost : r ≡ false → Exists j may (hasBit placed) (labelIn label) → ⊥
   pub kept : r ≡ false → LabelsKept j placed label label′
@@ -89,7 +90,7 @@ pub record Growable (j : Job) (placed next s w : ℕ) (label : List ℕ) : Type 
 
 -- what placing s in way w comes to
 pub record Grew (j : Job) (may : May) (placed next s w : ℕ) (label label′ : List ℕ) (r : Bool) : Type 0 where
-  pub sized : length label′ ≡ 36
+  pub sized : length label′ ≡ labelEntries
   pub kept : LabelsKept j placed label label′
   pub patterned : r ≡ true → Patterned j next label′
   pub passed : r ≡ true → Passed j may next label′
@@ -98,6 +99,6 @@ pub record Grew (j : Job) (may : May) (placed next s w : ℕ) (label label′ : 
 
 -- the ways before w are tried
 pub record WaysTried (j : Job) (may : May) (placed s w : ℕ) (label label′ : List ℕ) : Type 0 where
-  pub sized : length label′ ≡ 36
+  pub sized : length label′ ≡ labelEntries
   pub kept : LabelsKept j placed label label′
   pub failed : (k : ℕ) → k < w → Joins placed label (partner k) (depth k) → ByWay j may placed label s k → ⊥

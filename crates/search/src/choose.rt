@@ -12,6 +12,7 @@ ghost use mathlib.Core.Path.{_≡_};
 ghost use Prim.Native.Nat.{_<_};
 ghost use lib.ListN.{length};
 ghost use Rattle.bits.specs.Word.{hasBit};
+ghost use Rattle.bits.specs.Sizes.{labelEntries};
 ghost use Rattle.pattern.specs.Given.{Ruled};
 
 // The open step to place next, with the labels of the placed ones.
@@ -25,7 +26,7 @@ pub fn next_step(
     weight: &Weights,
 ) -> usize
     requires { ⌜ Ruled size (now rule) × (placed < 4096) × (rest < 4096) × (rest ≡ 0 → ⊥)
-        × (length (now reach) ≡ 36) × (length (now label) ≡ 36) × (length (now weight) ≡ 12) ⌝ }
+        × (length (now reach) ≡ labelEntries) × (length (now label) ≡ labelEntries) × (length (now weight) ≡ 12) ⌝ }
     ensures { λ r. ⌜ hasBit rest r ≡ true ⌝ }
 {
     let order = keys(size, rule, reach, placed, rest, label, weight);

@@ -12,6 +12,7 @@ ghost use mathlib.Core.Path.{_≡_};
 ghost use Prim.Native.Nat.{_^_, _≤_, _<_};
 ghost use lib.ListN.{length};
 ghost use Rattle.bits.specs.Word.{bitsSet};
+ghost use Rattle.bits.specs.Sizes.{mostLevels, labelEntries};
 ghost use Rattle.pattern.specs.Given.{Ruled};
 ghost use Rattle.pattern.specs.Rule.{levelIn, leastIn, scopeIn};
 ghost use Rattle.search.specs.Limits.{Gathering, Extras, Edges, ReachesLeast, Limits};
@@ -24,7 +25,7 @@ pub struct Spares {
 
 // The classes of level `q` + 1 with somebody for a step of the scope.
 fn classes_of(steps: usize, reach: &Reach, q: usize, scope: u16) -> u64
-    requires { ⌜ (steps ≤ 12) × (length (now reach) ≡ 36) × (q < 3) ⌝ }
+    requires { ⌜ (steps ≤ 12) × (length (now reach) ≡ labelEntries) × (q < mostLevels) ⌝ }
     ensures { λ r. ⌜ Gathering steps (now (reach .entry)) q scope r ⌝ }
 {
     let mut all: u64 = 0;
@@ -63,7 +64,7 @@ fn extra_classes(all: u64, spare: usize) -> Spares
 
 // The classes of level `q` + 1 with somebody for each step, and the extra ones.
 fn edges_of(steps: usize, reach: &Reach, q: usize, extra: u64) -> [u64; MOST_STEPS]
-    requires { ⌜ (steps ≤ 12) × (length (now reach) ≡ 36) × (q < 3) ⌝ }
+    requires { ⌜ (steps ≤ 12) × (length (now reach) ≡ labelEntries) × (q < mostLevels) ⌝ }
     ensures { λ r. ⌜ Edges steps (now (reach .entry)) q extra r ⌝ }
 {
     let mut edges = [0u64; MOST_STEPS];
@@ -76,7 +77,7 @@ fn edges_of(steps: usize, reach: &Reach, q: usize, extra: u64) -> [u64; MOST_STE
 // Whether as many steps of a rule's scope as its least count can be given different classes: the others have
 // extra classes then. Where there are not so many classes to spare, nothing is said.
 fn reaches_least(steps: usize, reach: &Reach, r: u32) -> bool
-    requires { ⌜ (steps ≤ 12) × (length (now reach) ≡ 36) × (1 ≤ levelIn r) × (levelIn r ≤ 3) × (scopeIn r < 2 ^ steps) × (leastIn r ≤ bitsSet steps (scopeIn r)) ⌝ }
+    requires { ⌜ (steps ≤ 12) × (length (now reach) ≡ labelEntries) × (1 ≤ levelIn r) × (levelIn r ≤ mostLevels) × (scopeIn r < 2 ^ steps) × (leastIn r ≤ bitsSet steps (scopeIn r)) ⌝ }
     ensures { λ b. ⌜ ReachesLeast steps (now (reach .entry)) r b ⌝ }
 {
     let scope = rule::scope(r);
@@ -93,7 +94,7 @@ fn reaches_least(steps: usize, reach: &Reach, r: u32) -> bool
 
 // Whether each lower limit can be reached. Those of one class and of two are left to the search.
 pub fn limits_reached(size: Size, rule: &Rules, reach: &Reach) -> bool
-    requires { ⌜ Ruled size (now rule) × (length (now reach) ≡ 36) ⌝ }
+    requires { ⌜ Ruled size (now rule) × (length (now reach) ≡ labelEntries) ⌝ }
     ensures { λ r. ⌜ Limits (size .steps) (size .rules) (now (rule .entry)) (now (reach .entry)) r ⌝ }
 {
     let rules = size.rules;

@@ -8,11 +8,12 @@ ghost use Prim.Native.Nat.{_+_, _*_, _≤_, _<_};
 ghost use lib.Dec.{ltb};
 ghost use lib.ListN.{length, getD};
 ghost use Rattle.bits.specs.Says.{Says};
+ghost use Rattle.bits.specs.Sizes.{mostLevels, labelEntries};
 ghost use Rattle.search.specs.Growth.{Placeable, Grows, Joins};
 
 // Whether step `t` is the label of a group of level `d`; with `d` 0 there is none to join.
 pub fn joins(placed: u16, label: &Labels, t: usize, d: usize) -> bool
-    requires { ⌜ (t < 12) × (d ≤ 3) × (length (now label) ≡ 36) ⌝ }
+    requires { ⌜ (t < 12) × (d ≤ mostLevels) × (length (now label) ≡ labelEntries) ⌝ }
     ensures { λ r. ⌜ Says r (Joins placed (now (label .entry)) t d) ⌝ }
 {
     if d == 0 {
@@ -26,7 +27,7 @@ pub fn joins(placed: u16, label: &Labels, t: usize, d: usize) -> bool
 
 // The label of step `s` at level `q` + 1: that of step `t` down to level `d`, and its own below.
 fn group(label: &Labels, q: usize, s: usize, t: usize, d: usize) -> u8
-    requires { ⌜ (q < 3) × (s < 12) × (t < 12) × (length (now label) ≡ 36) ⌝ }
+    requires { ⌜ (q < mostLevels) × (s < 12) × (t < 12) × (length (now label) ≡ labelEntries) ⌝ }
     ensures { λ r. ⌜ r ≡ cond (ltb q d) (getD (now (label .entry)) (q * 12 + t) 0) s ⌝ }
 {
     if q < d {

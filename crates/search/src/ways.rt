@@ -2,6 +2,7 @@
 // with few ways is placed next, so that a search which fails does so early. No promise rests on it.
 use bits::sizes::LABEL_ENTRIES;
 use bits::sizes::Labels;
+use bits::sizes::MOST_LEVELS;
 use bits::sizes::MOST_STEPS;
 use bits::sizes::Reach;
 use bits::sizes::Rules;
@@ -13,8 +14,9 @@ use pattern::rule;
 use realize::parts::groups_of;
 use workflow::count::class_count;
 ghost use mathlib.Core.Path.{_≡_};
-ghost use Prim.Native.Nat.{_<_, _≤_};
+ghost use Prim.Native.Nat.{_+_, _<_, _≤_};
 ghost use lib.ListN.{length};
+ghost use Rattle.bits.specs.Sizes.{mostLevels, labelEntries};
 ghost use Rattle.pattern.specs.Given.{Ruled};
 ghost use Rattle.pattern.specs.Rule.{levelIn, scopeIn};
 
@@ -31,8 +33,8 @@ fn within(scope: u16, steps: u16) -> u16
 
 // Leaves some steps only such labels.
 fn leave(steps: u16, top: usize, labels: u16, free: &mut [u16; LABEL_ENTRIES])
-    requires { ⌜ (steps < 4096) × (top ≤ 24) × (length (now free) ≡ 36) ⌝ }
-    ensures { λ _. ⌜ length (now (free .exit)) ≡ 36 ⌝ }
+    requires { ⌜ (steps < 4096) × (top + 12 ≤ labelEntries) × (length (now free) ≡ labelEntries) ⌝ }
+    ensures { λ _. ⌜ length (now (free .exit)) ≡ labelEntries ⌝ }
 {
     let mut left = steps;
     while left != 0 {
@@ -46,8 +48,8 @@ fn leave(steps: u16, top: usize, labels: u16, free: &mut [u16; LABEL_ENTRIES])
 // The labels that a rule leaves to its open steps: at its upper end those that its placed steps have, at
 // its lower end the others.
 fn by_rule(r: u32, placed: u16, label: &Labels, free: &mut [u16; LABEL_ENTRIES])
-    requires { ⌜ (1 ≤ levelIn r) × (levelIn r ≤ 3) × (length (now label) ≡ 36) × (length (now free) ≡ 36) × (scopeIn r < 4096) ⌝ }
-    ensures { λ _. ⌜ length (now (free .exit)) ≡ 36 ⌝ }
+    requires { ⌜ (1 ≤ levelIn r) × (levelIn r ≤ mostLevels) × (length (now label) ≡ labelEntries) × (length (now free) ≡ labelEntries) × (scopeIn r < 4096) ⌝ }
+    ensures { λ _. ⌜ length (now (free .exit)) ≡ labelEntries ⌝ }
 {
     let scope = rule::scope(r);
     let left = within(scope, placed ^ ANY);
@@ -71,8 +73,8 @@ fn by_rule(r: u32, placed: u16, label: &Labels, free: &mut [u16; LABEL_ENTRIES])
 
 // The labels that all rules leave to the open steps.
 fn by_rules(size: Size, rule: &Rules, placed: u16, label: &Labels, free: &mut [u16; LABEL_ENTRIES])
-    requires { ⌜ Ruled size (now rule) × (length (now label) ≡ 36) × (length (now free) ≡ 36) ⌝ }
-    ensures { λ _. ⌜ length (now (free .exit)) ≡ 36 ⌝ }
+    requires { ⌜ Ruled size (now rule) × (length (now label) ≡ labelEntries) × (length (now free) ≡ labelEntries) ⌝ }
+    ensures { λ _. ⌜ length (now (free .exit)) ≡ labelEntries ⌝ }
 {
     let rules = size.rules;
     for i in 0..rules {
@@ -90,7 +92,7 @@ fn joinable(
     s: usize,
     t: usize,
 ) -> bool
-    requires { ⌜ (q < 3) × (s < 12) × (t < 12) × (length (now reach) ≡ 36) × (length (now free) ≡ 36) × (length (now label) ≡ 36) ⌝ }
+    requires { ⌜ (q < mostLevels) × (s < 12) × (t < 12) × (length (now reach) ≡ labelEntries) × (length (now free) ≡ labelEntries) × (length (now label) ≡ labelEntries) ⌝ }
 {
     if reach[q * MOST_STEPS + s] & reach[q * MOST_STEPS + t] == 0 {
         return false;
@@ -115,7 +117,7 @@ fn joined(
     s: usize,
     groups: u16,
 ) -> u16
-    requires { ⌜ (q < 3) × (s < 12) × (groups < 4096) × (length (now reach) ≡ 36) × (length (now free) ≡ 36) × (length (now label) ≡ 36) ⌝ }
+    requires { ⌜ (q < mostLevels) × (s < 12) × (groups < 4096) × (length (now reach) ≡ labelEntries) × (length (now free) ≡ labelEntries) × (length (now label) ≡ labelEntries) ⌝ }
 {
     let mut found: u16 = 0;
     let mut left = groups;
@@ -137,10 +139,11 @@ fn ways_of(
     reach: &Reach,
     free: &[u16; LABEL_ENTRIES],
     label: &Labels,
-    heads: &[u16; 3],
+    heads: &[u16; MOST_LEVELS],
     s: usize,
 ) -> u32
-    requires { ⌜ (levels ≤ 3) × (s < 12) × (length (now reach) ≡ 36) × (length (now free) ≡ 36) × (length (now label) ≡ 36) × (length (now heads) ≡ 3) ⌝ }
+    requires { ⌜ (levels ≤ mostLevels) × (s < 12) × (length (now reach) ≡ labelEntries) × (length (now free) ≡ labelEntries) × (length (now label) ≡ labelEntries)
+        × (length (now heads) ≡ mostLevels) ⌝ }
 {
     let mut ways: u32 = 0;
     for k in 0..levels {
@@ -154,11 +157,11 @@ fn ways_of(
 }
 
 // The groups of each level, by their names.
-fn heads_of(levels: usize, placed: u16, label: &Labels) -> [u16; 3]
-    requires { ⌜ (levels ≤ 3) × (placed < 4096) × (length (now label) ≡ 36) ⌝ }
-    ensures { λ r. ⌜ length r ≡ 3 ⌝ }
+fn heads_of(levels: usize, placed: u16, label: &Labels) -> [u16; MOST_LEVELS]
+    requires { ⌜ (levels ≤ mostLevels) × (placed < 4096) × (length (now label) ≡ labelEntries) ⌝ }
+    ensures { λ r. ⌜ length r ≡ mostLevels ⌝ }
 {
-    let mut heads = [0u16; 3];
+    let mut heads = [0u16; MOST_LEVELS];
     for q in 0..levels {
         heads[q] = groups_of(label, q, placed);
     }
@@ -176,12 +179,12 @@ fn keyed(
     reach: &Reach,
     free: &[u16; LABEL_ENTRIES],
     label: &Labels,
-    heads: &[u16; 3],
+    heads: &[u16; MOST_LEVELS],
     weight: &Weights,
     rest: u16,
 ) -> [u64; MOST_STEPS]
-    requires { ⌜ (levels ≤ 3) × (rest < 4096) × (length (now reach) ≡ 36) × (length (now free) ≡ 36) × (length (now label) ≡ 36)
-        × (length (now heads) ≡ 3) × (length (now weight) ≡ 12) ⌝ }
+    requires { ⌜ (levels ≤ mostLevels) × (rest < 4096) × (length (now reach) ≡ labelEntries) × (length (now free) ≡ labelEntries) × (length (now label) ≡ labelEntries)
+        × (length (now heads) ≡ mostLevels) × (length (now weight) ≡ 12) ⌝ }
     ensures { λ r. ⌜ length r ≡ 12 ⌝ }
 {
     let mut keys = [0u64; MOST_STEPS];
@@ -205,7 +208,7 @@ pub fn keys(
     label: &Labels,
     weight: &Weights,
 ) -> [u64; MOST_STEPS]
-    requires { ⌜ Ruled size (now rule) × (placed < 4096) × (rest < 4096) × (length (now reach) ≡ 36) × (length (now label) ≡ 36) × (length (now weight) ≡ 12) ⌝ }
+    requires { ⌜ Ruled size (now rule) × (placed < 4096) × (rest < 4096) × (length (now reach) ≡ labelEntries) × (length (now label) ≡ labelEntries) × (length (now weight) ≡ 12) ⌝ }
     ensures { λ r. ⌜ length r ≡ 12 ⌝ }
 {
     let mut free = [ANY; LABEL_ENTRIES];

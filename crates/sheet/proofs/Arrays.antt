@@ -2,22 +2,26 @@
 use mathlib.Core.Bool.{Bool, not, _&&_, _||_}
 use mathlib.Core.List.{List}
 use mathlib.Core.Path.{_≡_, sym, _∙_, ap, ap₂}
-use Prim.Native.Nat.{ℕ, _<_, _≤_}
+use Prim.Native.Nat.{ℕ, suc, _-_, _<_, _≤_}
 use native.Mathlib.Omega.{arith}
 use lib.Dec.{eqb}
 use lib.ListN.{length, getD, take}
 use lib.Seq.{length-take-le, getD-take}
+use Rattle.bits.specs.Columns.{columnOf}
+use Rattle.bits.specs.Sizes.{mostClassLevels, mostLevels, classWords}
 use Rattle.bits.proofs.Below.{first-cong}
-use Rattle.card.specs.Fields.{tagOf, shopOf, benchOf}
-use Rattle.card.specs.Refusals.{tagFault, benchFault, looseFault}
+use Rattle.bits.proofs.Counting.{any-cong}
+use Rattle.card.specs.Fields.{tagOf, classLevels, levelsIn, classOf}
+use Rattle.card.specs.Refusals.{tagFault, classFault, looseFault}
 use Rattle.chain.specs.Answer.{marked}
-use Rattle.sheet.specs.Read.{Read, job, fault, checked, onThree, firstClash, firstLoose, sameTag, benchMoved}
-use Rattle.sheet.specs.Answer.{answer, jobOf, table}
-use Rattle.sheet.specs.Cards.{Listing, Marking, equalAt, movedAt}
+use Rattle.sheet.specs.Read.{Read, job, fault, checked, onThree, firstClash, firstLoose, sameTag, sameClass, classMoved}
+use Rattle.sheet.specs.Answer.{answer, jobOf, table, classTable}
+use Rattle.sheet.specs.Cards.{Listing, Marking, equalAt, movedIn}
 use Rattle.sheet.specs.declared.SheetJob.{SheetJob}
 use Rattle.sheet.specs.declared.Sheet.{Sheet}
 use Rattle.sheet.specs.declared.Reading.the-variants.{Readable}
-use Rattle.sheet.proofs.Checked.{clash-cong, person-tag-fault, step-tag-fault, bench-fault, loose-fault, no-fault}
+use Rattle.sheet.proofs.Checked.{clash-cong, person-tag-fault, step-tag-fault, class-fault, loose-fault, no-fault}
+use Rattle.sheet.proofs.Columns.{length-classes, classes-level}
 use Rattle.sheet.proofs.Fill.{getD-table, length-table}
 
 -- the cards that an array's first entries list
@@ -31,6 +35,7 @@ pub record Filled (s people steps rules : List ℕ) (p n r : ℕ) (j : SheetJob)
   pub few : n ≤ 12
   pub rules-listed : Listing s rules r
   pub arrays : j ≡ jobOf s (take p people) (take n steps) (take r rules)
+  pub few-levels : classLevels s ≤ mostClassLevels
 
 -- the clash of a table is that of the cards' field
 table-clash : (size : ℕ) (f : ℕ → ℕ) (l : List ℕ) (j k : ℕ) → j < k → k < length l → equalAt (table size f l) j k ≡ eqb (f (getD l j 0)) (f (getD l k 0))
@@ -62,13 +67,16 @@ module _ {s people steps rules : List ℕ} {p n r : ℕ} {j : SheetJob} (w : Fil
   unfolding jobOf
   step-tags = ap (λ (x : SheetJob). x .«step_tag») (w .arrays)
 
-  shops : j .shop ≡ table 64 (shopOf s) persons
+  classes : j .class ≡ classTable s persons
   unfolding jobOf
-  shops = ap (λ (x : SheetJob). x .shop) (w .arrays)
+  classes = ap (λ (x : SheetJob). x .class) (w .arrays)
 
-  benches : j .bench ≡ table 64 (benchOf s) persons
+  levels : j .levels ≡ levelsIn s
   unfolding jobOf
-  benches = ap (λ (x : SheetJob). x .bench) (w .arrays)
+  levels = ap (λ (x : SheetJob). x .levels) (w .arrays)
+
+  few-persons : length persons ≤ 64
+  few-persons = let e = persons-count in let b = w .people-listed .fits in omega arith
 
   -- a table of the people has 64 entries
   person-table : (f : ℕ → ℕ) → length (table 64 f persons) ≡ 64
@@ -86,11 +94,11 @@ module _ {s people steps rules : List ℕ} {p n r : ℕ} {j : SheetJob} (w : Fil
       let q : length (j .«step_tag») ≡ 12 = ap length step-tags ∙ length-table 12 (tagOf s) tasks (omega arith) in
       omega arith
 
-  pub shops-length : length (j .shop) ≡ 64
-  shops-length = ap length shops ∙ person-table (shopOf s)
+  pub classes-length : length (j .class) ≡ classWords
+  classes-length = ap length classes ∙ length-classes s persons few-persons (w .few-levels)
 
-  pub benches-length : length (j .bench) ≡ 64
-  benches-length = ap length benches ∙ person-table (benchOf s)
+  pub levels-few : j .levels ≤ mostLevels
+  levels-few = let a = w .few-levels in let b = levels in omega arith
 
   person-clash : firstClash p (equalAt (j .«person_tag»)) ≡ firstClash (length persons) (sameTag s persons)
   person-clash =
@@ -102,12 +110,23 @@ module _ {s people steps rules : List ℕ} {p n r : ℕ} {j : SheetJob} (w : Fil
       ap₂ (λ (m : ℕ) (l : List ℕ). firstClash m (equalAt l)) (sym tasks-count) step-tags
       ∙ clash-cong (length tasks) _ _ (table-clash 12 (tagOf s) tasks)
 
-  bench-clashes : firstClash p (movedAt (j .bench) (j .shop)) ≡ firstClash (length persons) (benchMoved s persons)
-  bench-clashes =
-      ap (λ (m : ℕ). firstClash m (movedAt (j .bench) (j .shop))) (sym persons-count)
-      ∙ ap₂ (λ (a b : List ℕ). firstClash (length persons) (movedAt a b)) benches shops
+  -- two people have one class of a level in the table exactly where they have it on their cards
+  column-clash : (q i k : ℕ) → 1 ≤ q → q ≤ classLevels s → i < k → k < length persons
+      → equalAt (columnOf (classTable s persons) q) i k ≡ sameClass s persons q i k
+  column-clash q i k l m a b =
+      ap (λ (x : List ℕ). equalAt x i k) (classes-level s persons few-persons (w .few-levels) q l m) ∙ table-clash 64 (classOf s q) persons i k a b
+
+  class-clashes : firstClash p (movedIn (j .class) (j .levels - 2)) ≡ firstClash (length persons) (classMoved s persons)
+  class-clashes =
+      let d : j .levels - 2 ≡ classLevels s - 1 = omega (arith, levels) in
+      let f = w .few-levels in
+      ap (λ (m : ℕ). firstClash m (movedIn (j .class) (j .levels - 2))) (sym persons-count)
+      ∙ ap₂ (λ (a : List ℕ) (n : ℕ). firstClash (length persons) (movedIn a n)) classes d
       ∙ clash-cong (length persons) _ _
-      (λ i k a b. ap₂ (λ (x y : Bool). x && not y) (table-clash 64 (benchOf s) persons i k a b) (table-clash 64 (shopOf s) persons i k a b))
+      (λ i k a b. any-cong (classLevels s - 1) _ _
+      (λ q l. ap₂ (λ (x y : Bool). x && not y)
+      (column-clash (suc (suc q)) i k (omega arith) (omega arith) a b)
+      (column-clash (suc q) i k (omega arith) (omega arith) a b)))
 
   module _ {cards : ℕ} {marks : List Bool} (m : Marking s cards marks (onThree persons tasks (take r rules)))
       {i : ℕ} (is-i : i ≡ firstClash p (equalAt (j .«person_tag»))) where
@@ -135,22 +154,22 @@ module _ {s people steps rules : List ℕ} {p n r : ℕ} {j : SheetJob} (w : Fil
           let f = step-tag-fault s cards persons tasks (take r rules) i clash-i past-people k clash-k (omega arith) in
           e s ∙ ap (answer s) (at-card tagFault k steps n l ∙ f)
 
-      module _ (past-k : n ≤ k) {b : ℕ} (is-b : b ≡ firstClash p (movedAt (j .bench) (j .shop))) where
-        clash-b : b ≡ firstClash (length persons) (benchMoved s persons)
-        clash-b = is-b ∙ bench-clashes
+      module _ (past-k : n ≤ k) {b : ℕ} (is-b : b ≡ firstClash p (movedIn (j .class) (j .levels - 2))) where
+        clash-b : b ≡ firstClash (length persons) (classMoved s persons)
+        clash-b = is-b ∙ class-clashes
 
         past-steps : length tasks ≤ k
         past-steps = let q = tasks-count in omega arith
 
-        pub refuse-bench : b < p → (a : Sheet) → ((t : List ℕ) → a ≡ answer t (fault benchFault (getD people b 0))) → a ≡ answer s read
-        refuse-bench l a e =
+        pub refuse-class : b < p → (a : Sheet) → ((t : List ℕ) → a ≡ answer t (fault classFault (getD people b 0))) → a ≡ answer s read
+        refuse-class l a e =
             let q = persons-count in
-            let f = bench-fault s cards persons tasks (take r rules) i clash-i past-people k clash-k past-steps b clash-b (omega arith) in
-            e s ∙ ap (answer s) (at-card benchFault b people p l ∙ f)
+            let f = class-fault s cards persons tasks (take r rules) i clash-i past-people k clash-k past-steps b clash-b (omega arith) in
+            e s ∙ ap (answer s) (at-card classFault b people p l ∙ f)
 
         module _ (past-b : p ≤ b) {c : ℕ} (is-c : c ≡ firstLoose cards (marked marks)) where
-          past-benches : length persons ≤ b
-          past-benches = let q = persons-count in omega arith
+          past-classes : length persons ≤ b
+          past-classes = let q = persons-count in omega arith
 
           loose-is : c ≡ firstLoose cards (onThree persons tasks (take r rules))
           unfolding firstLoose
@@ -160,7 +179,7 @@ module _ {s people steps rules : List ℕ} {p n r : ℕ} {j : SheetJob} (w : Fil
           refuse-loose l a e =
               e s
               ∙ ap (answer s)
-              (loose-fault s cards persons tasks (take r rules) i clash-i past-people k clash-k past-steps b clash-b past-benches c loose-is l)
+              (loose-fault s cards persons tasks (take r rules) i clash-i past-people k clash-k past-steps b clash-b past-classes c loose-is l)
 
           pub read-job : cards ≤ c → _≡_ {A = Sheet} (record { reading = Readable p n r; job = j }) (answer s read)
           unfolding answer
@@ -168,4 +187,4 @@ module _ {s people steps rules : List ℕ} {p n r : ℕ} {j : SheetJob} (w : Fil
               let lp = sym persons-count in let ls = sym tasks-count in let lr = sym (length-listing (w .rules-listed)) in
               (λ t. record { reading = Readable (lp t) (ls t) (lr t); job = w .arrays t })
               ∙ ap (answer s)
-              (no-fault s cards persons tasks (take r rules) i clash-i past-people k clash-k past-steps b clash-b past-benches c loose-is l)
+              (no-fault s cards persons tasks (take r rules) i clash-i past-people k clash-k past-steps b clash-b past-classes c loose-is l)

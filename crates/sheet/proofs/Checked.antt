@@ -7,8 +7,8 @@ use lib.ListN.{length, getD}
 use borrow.Author.Tests.{lt-ltb, le-ltb}
 use Rattle.bits.proofs.Below.{first-cong}
 use Rattle.bits.proofs.Counting.{any-cong}
-use Rattle.card.specs.Refusals.{tagFault, benchFault, looseFault}
-use Rattle.sheet.specs.Read.{job, fault, checked, onThree, firstClash, firstLoose, sameTag, benchMoved}
+use Rattle.card.specs.Refusals.{tagFault, classFault, looseFault}
+use Rattle.sheet.specs.Read.{job, fault, checked, onThree, firstClash, firstLoose, sameTag, classMoved}
 
 -- a clash depends on the pairs below the bound alone
 pub clash-cong : (n : ℕ) (f g : ℕ → ℕ → Bool) → ((j k : ℕ) → j < k → k < n → f j k ≡ g j k) → firstClash n f ≡ firstClash n g
@@ -26,10 +26,10 @@ module _ (s : List ℕ) (n : ℕ) (people steps rules : List ℕ) (i : ℕ) (is-
     unfolding checked
     step-tag-fault l = rw (← is-i, le-ltb _ _ past-i, ← is-j, lt-ltb _ _ l)
 
-    module _ (past-j : length steps ≤ j) (k : ℕ) (is-k : k ≡ firstClash (length people) (benchMoved s people)) where
-      pub bench-fault : k < length people → fault benchFault (getD people k 0) ≡ checked s n people steps rules
+    module _ (past-j : length steps ≤ j) (k : ℕ) (is-k : k ≡ firstClash (length people) (classMoved s people)) where
+      pub class-fault : k < length people → fault classFault (getD people k 0) ≡ checked s n people steps rules
       unfolding checked
-      bench-fault l = rw (← is-i, le-ltb _ _ past-i, ← is-j, le-ltb _ _ past-j, ← is-k, lt-ltb _ _ l)
+      class-fault l = rw (← is-i, le-ltb _ _ past-i, ← is-j, le-ltb _ _ past-j, ← is-k, lt-ltb _ _ l)
 
       module _ (past-k : length people ≤ k) (c : ℕ) (is-c : c ≡ firstLoose n (onThree people steps rules)) where
         pub loose-fault : c < n → fault looseFault c ≡ checked s n people steps rules

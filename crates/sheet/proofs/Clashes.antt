@@ -1,5 +1,5 @@
--- Where no tag fell into a slot, none stood before; where the first person of a slot has the same bench and shop, no earlier one has
--- the bench with another shop. Assumes nothing.
+-- Where no tag fell into a slot, none stood before; where the first person of a slot has the same class and the same above, no earlier one has
+-- the class with another above; and the first clash of two kinds. Assumes nothing.
 use mathlib.Core.Bool.{Bool, true, false, _&&_}
 use mathlib.Core.List.{List}
 use mathlib.Core.Path.{_≡_, sym, _∙_, ap}
@@ -48,29 +48,29 @@ module _ (tags : List ℕ) (k : ℕ) (marks : List Bool) (w : SlotsMarked tags k
       (λ j l. is-false (equalAt tags j k)
       (λ t. true-false (w .each j l) (ap (λ (x : ℕ). getD marks (x % 1024) false) (eqb-true _ _ t) ∙ h))))
 
-module _ (benches shops : List ℕ) (k : ℕ) (u : Unmoved benches shops k) where
-  -- two people before k on one bench are in one shop
-  pair : (i j : ℕ) → i < j → j < k → getD benches i 0 ≡ getD benches j 0 → getD shops i 0 ≡ getD shops j 0
+module _ (below above : List ℕ) (k : ℕ) (u : Unmoved below above k) where
+  -- two people before k of one class have one above
+  pair : (i j : ℕ) → i < j → j < k → getD below i 0 ≡ getD below j 0 → getD above i 0 ≡ getD above j 0
   pair i j l m e =
-      let h : movedAt benches shops i j ≡ false = any-none j (λ x. movedAt benches shops x j) (u .each j m) i l in
-      eqb-true _ _ (not-false (equalAt shops i j) (rw (eq-eqb _ _ e) at h))
+      let h : movedAt below above i j ≡ false = any-none j (λ x. movedAt below above x j) (u .each j m) i l in
+      eqb-true _ _ (not-false (equalAt above i j) (rw (eq-eqb _ _ e) at h))
 
-  pub same-shop : (i : ℕ) → NoneBefore benches k i → (equalAt benches i k && equalAt shops i k) ≡ true → false ≡ any k (λ j. movedAt benches shops j k)
-  same-shop i w h =
+  pub same-above : (i : ℕ) → NoneBefore below k i → (equalAt below i k && equalAt above i k) ≡ true → false ≡ any k (λ j. movedAt below above j k)
+  same-above i w h =
       sym
-      (none-any k (λ j. movedAt benches shops j k)
-      (λ j l. is-false (movedAt benches shops j k)
+      (none-any k (λ j. movedAt below above j k)
+      (λ j l. is-false (movedAt below above j k)
       (λ t.
-      let e : getD benches j 0 ≡ getD benches k 0 = eqb-true _ _ (and-left (equalAt benches j k) _ t) in
-      eqb-false _ _ (not-true (equalAt shops j k) (and-right (equalAt benches j k) _ t)) (with-i j l e ∙ eqb-true _ _ (and-right (equalAt benches i k) _ h)))))
+      let e : getD below j 0 ≡ getD below k 0 = eqb-true _ _ (and-left (equalAt below j k) _ t) in
+      eqb-false _ _ (not-true (equalAt above j k) (and-right (equalAt below j k) _ t)) (with-i j l e ∙ eqb-true _ _ (and-right (equalAt below i k) _ h)))))
     where
-      with-i : (j : ℕ) → j < k → getD benches j 0 ≡ getD benches k 0 → getD shops j 0 ≡ getD shops i 0
+      with-i : (j : ℕ) → j < k → getD below j 0 ≡ getD below k 0 → getD above j 0 ≡ getD above i 0
       with-i j l e =
           by-cases (ltb j i)
           (λ t. absurd (w .before j (ltb-true j i t) (ap (λ (x : ℕ). x % 1024) e)))
           (λ t. by-cases (eqb j i)
-          (λ q. ap (λ (x : ℕ). getD shops x 0) (eqb-true j i q))
+          (λ q. ap (λ (x : ℕ). getD above x 0) (eqb-true j i q))
           (λ q.
           let f : j ≡ i → ⊥ = eqb-false j i q in
           let g : i ≤ j = ltb-false j i t in
-          sym (pair i j (omega arith) l (eqb-true _ _ (and-left (equalAt benches i k) _ h) ∙ sym e))))
+          sym (pair i j (omega arith) l (eqb-true _ _ (and-left (equalAt below i k) _ h) ∙ sym e))))

@@ -6,7 +6,7 @@ use native.Mathlib.Omega.{arith}
 use native.Mathlib.Nat.{sub-zero, not-suc-le-zero, le-of-suc-le-suc}
 use native.Mathlib.Numerals.{add-one}
 use lib.ListN.{length, getD, take, set, replicate, length-map, length-append, length-replicate, List·getD-append}
-use lib.Seq.{take-suc, set-at, length-take-le}
+use lib.Seq.{take-suc, set-at, length-take-le, getD-append-add}
 use Rattle.sheet.specs.Answer.{table}
 
 map-append : (f : ℕ → ℕ) (a b : List ℕ) → map f (a ++ b) ≡ map f a ++ map f b
@@ -68,3 +68,17 @@ getD-table size f l k h =
     getD-map f [] k h = absurd (not-suc-le-zero h)
     getD-map f (x ∷ l) zero h = refl
     getD-map f (x ∷ l) (suc k) h = getD-map f l k (le-of-suc-le-suc h)
+
+pub getD-zeros : (n x : ℕ) → getD (replicate {A = ℕ} n 0) x 0 ≡ 0
+getD-zeros zero x = refl
+getD-zeros (suc n) zero = refl
+getD-zeros (suc n) (suc x) = getD-zeros n x
+
+-- and zeros stand after the last
+pub getD-table-past : (size : ℕ) (f : ℕ → ℕ) (l : List ℕ) (k : ℕ) → length l ≤ k → getD (table size f l) k 0 ≡ 0
+unfolding table
+getD-table-past size f l k h =
+    let e : k ≡ length (map f l) + (k - length l) = omega (arith, length-map l f) in
+    ap (λ (x : ℕ). getD (map f l ++ replicate (size - length l) 0) x 0) e
+    ∙ getD-append-add (map f l) (replicate (size - length l) 0) (k - length l) 0
+    ∙ getD-zeros (size - length l) (k - length l)

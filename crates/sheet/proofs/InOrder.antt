@@ -15,7 +15,9 @@ use Rattle.bits.proofs.Below.{by-cases, true-false, and-left, and-right}
 use Rattle.bits.proofs.Masks.{bits-below}
 use Rattle.bits.proofs.SetLaws.{has-below}
 use Rattle.card.specs.Layout.{cardByte, cardWord, cardLong, kindOf, nextOf, headerKind}
-use Rattle.card.specs.Fields.{headerOk, personOk, stepOk, ruleOk, tagOf, shopOf, benchOf, permittedOf, skippedOf, ruleKindOf, levelOf, limitOf, scopeOf, limitOk, scopeSize, nonzero, onlyBelow}
+use Rattle.card.specs.Fields.{versionOf, levelsByte, formOk, headerOk, classLevels, levelsIn, personOk, stepOk, ruleOk, tagOf, classOf, classFieldOk, permittedOf, skippedOf, ruleKindOf, levelOf, limitOf, scopeOf, limitOk, scopeSize, nonzero, onlyBelow}
+use Rattle.bits.specs.Sizes.{mostClassLevels}
+use Rattle.card.proofs.Levels.{form-cases, form-first, form-second, levels-few, field-used, field-unused, field-true}
 use Rattle.card.proofs.Limits.{limit-cases}
 use Rattle.card.proofs.Zeros.{word-zero, zero-word, long-zero, zero-long}
 use Rattle.sheet.specs.Read.{lengthOk}
@@ -98,24 +100,54 @@ module _ (s : List ℕ) where
   pub header-true : HeaderInOrder s → headerOk s (cardsIn s) ≡ true
   unfolding headerOk
   header-true h =
-      rw (eq-eqb _ _ (h .kind), eq-eqb _ _ (h .one), eq-eqb _ _ (h .next), eq-eqb _ _ (h .cards), eq-eqb _ _ (zero-long s 0 12 (h .unnamed))) refl
+      rw (
+        eq-eqb _ _ (h .kind),
+        good-form (h .version),
+        eq-eqb _ _ (h .next),
+        eq-eqb _ _ (h .cards),
+        eq-eqb _ _ (h .unnamed 13 (omega arith) (omega arith)),
+        eq-eqb _ _ (zero-word s 0 14 (λ b l m. h .unnamed b (omega arith) m)),
+      )
+      refl
+    where
+      good-form : ((versionOf s ≡ 1) × (levelsByte s ≡ 0)) ⊎ ((versionOf s ≡ 2) × (1 ≤ levelsByte s) × (levelsByte s ≤ 3)) → formOk (versionOf s) (levelsByte s) ≡ true
+      good-form (inl w) = form-first (versionOf s) (levelsByte s) (w .0) (w .1)
+      good-form (inr w) = form-second (versionOf s) (levelsByte s) (w .0) (w .1) (w .2)
+
+  -- what the tests of a header say
+  header-tests : (n : ℕ) → headerOk s n ≡ true
+      → (eqb (kindOf s 0) headerKind ≡ true) × (formOk (versionOf s) (levelsByte s) ≡ true) × (eqb (nextOf s 0) 0 ≡ true) × (eqb (cardWord s 0 10) n ≡ true)
+      × (eqb (cardByte s 0 13) 0 ≡ true) × (eqb (cardWord s 0 14) 0 ≡ true)
+  unfolding headerOk
+  header-tests n h =
+      and-six (eqb (kindOf s 0) headerKind) (formOk (versionOf s) (levelsByte s)) (eqb (nextOf s 0) 0) (eqb (cardWord s 0 10) n) (eqb (cardByte s 0 13) 0)
+      (eqb (cardWord s 0 14) 0) h
+
+  -- a good header gives one to three class levels
+  pub header-levels : (n : ℕ) → headerOk s n ≡ true → (1 ≤ classLevels s) × (classLevels s ≤ mostClassLevels)
+  header-levels n h = levels-few s (header-tests n h .1)
 
   pub header-in-order : headerOk s (cardsIn s) ≡ true → HeaderInOrder s
-  unfolding headerOk
   header-in-order h =
-      let t = and-five (eqb (kindOf s 0) headerKind) (eqb (cardByte s 0 1) 1) (eqb (nextOf s 0) 0) (eqb (cardWord s 0 10) (cardsIn s)) (eqb (cardLong s 0 12) 0) h in
+      let t = header-tests (cardsIn s) h in
       record {
         kind = eqb-true _ _ (t .0);
-        one = eqb-true _ _ (t .1);
+        version = form-cases (versionOf s) (levelsByte s) (t .1) (λ a b. inl (a, b)) (λ a b c. inr (a, b, c));
         next = eqb-true _ _ (t .2);
         cards = eqb-true _ _ (t .3);
-        unnamed = long-zero s 0 12 (eqb-true _ _ (t .4));
+        unnamed = λ b l m.
+            by-cases (eqb b 13)
+            (λ u. subst (λ (x : ℕ). cardByte s 0 x ≡ 0) (sym (eqb-true b 13 u)) (eqb-true _ _ (t .4)))
+            (λ u. let d = eqb-false b 13 u in word-zero s 0 14 (eqb-true _ _ (t .5)) b (omega arith) m);
       }
 
 -- what the tests of a person card say
 abbrev pub PersonTested : List ℕ → ℕ → Type 0
 PersonTested s c =
-    (cardByte s c 1 ≡ 0) × (0 < tagOf s c) × (0 < shopOf s c) × (0 < benchOf s c) × (onlyBelow 12 (permittedOf s c) ≡ true) × (cardWord s c 14 ≡ 0)
+    (cardByte s c 1 ≡ 0)
+    × (0 < tagOf s c)
+    × (onlyBelow 12 (permittedOf s c) ≡ true)
+    × ((q : ℕ) → 1 ≤ q → q ≤ mostClassLevels → classFieldOk (classLevels s) q (classOf s q c) ≡ true)
 
 -- of a step card
 abbrev pub StepTested : List ℕ → ℕ → Type 0
@@ -126,7 +158,7 @@ abbrev pub RuleTested : List ℕ → ℕ → ℕ → Type 0
 RuleTested s steps c =
     (limitOk (ruleKindOf s c) (limitOf s c) (scopeSize (scopeOf s c)) ≡ true)
     × (1 ≤ levelOf s c)
-    × (levelOf s c ≤ 3)
+    × (levelOf s c ≤ levelsIn s)
     × (onlyBelow steps (scopeOf s c) ≡ true)
     × (cardLong s c 8 ≡ 0)
     × (cardLong s c 12 ≡ 0)
@@ -154,8 +186,18 @@ module _ (s : List ℕ) (c : ℕ) where
   pub person-fields : personOk s c ≡ true → PersonTested s c
   unfolding personOk
   person-fields h =
-      let t = and-six (eqb (cardByte s c 1) 0) (nonzero (tagOf s c)) (nonzero (shopOf s c)) (nonzero (benchOf s c)) (onlyBelow 12 (permittedOf s c)) (eqb (cardWord s c 14) 0) h in
-      (eqb-true _ _ (t .0), above-zero _ (t .1), above-zero _ (t .2), above-zero _ (t .3), t .4, eqb-true _ _ (t .5))
+      let t = and-six (eqb (cardByte s c 1) 0) (nonzero (tagOf s c)) (onlyBelow 12 (permittedOf s c)) (classFieldOk (classLevels s) 1 (classOf s 1 c))
+      (classFieldOk (classLevels s) 2 (classOf s 2 c)) (classFieldOk (classLevels s) 3 (classOf s 3 c)) h in
+      (eqb-true _ _ (t .0), above-zero _ (t .1), t .2, each-class (t .3) (t .4) (t .5))
+    where
+      -- the three fields that a card has
+      each-class : classFieldOk (classLevels s) 1 (classOf s 1 c) ≡ true → classFieldOk (classLevels s) 2 (classOf s 2 c) ≡ true
+          → classFieldOk (classLevels s) 3 (classOf s 3 c) ≡ true → (q : ℕ) → 1 ≤ q → q ≤ mostClassLevels → classFieldOk (classLevels s) q (classOf s q c) ≡ true
+      each-class x y z zero l m = absurd (omega arith)
+      each-class x y z (suc zero) l m = x
+      each-class x y z (suc (suc zero)) l m = y
+      each-class x y z (suc (suc (suc zero))) l m = z
+      each-class x y z (suc (suc (suc (suc q)))) l m = absurd (omega arith)
 
   pub step-fields : stepOk s c ≡ true → StepTested s c
   unfolding stepOk
@@ -166,23 +208,22 @@ module _ (s : List ℕ) (c : ℕ) where
   pub rule-fields : (steps : ℕ) → ruleOk s steps c ≡ true → RuleTested s steps c
   unfolding ruleOk
   rule-fields steps h =
-      let t = and-five (limitOk (ruleKindOf s c) (limitOf s c) (scopeSize (scopeOf s c))) (leb 1 (levelOf s c) && leb (levelOf s c) 3)
+      let t = and-five (limitOk (ruleKindOf s c) (limitOf s c) (scopeSize (scopeOf s c))) (leb 1 (levelOf s c) && leb (levelOf s c) (levelsIn s))
       (onlyBelow steps (scopeOf s c)) (eqb (cardLong s c 8) 0) (eqb (cardLong s c 12) 0) h in
-      let from = and-left (leb 1 (levelOf s c)) (leb (levelOf s c) 3) (t .1) in
-      let to = and-right (leb 1 (levelOf s c)) (leb (levelOf s c) 3) (t .1) in
-      (t .0, leb-true 1 _ from, leb-true _ 3 to, t .2, eqb-true _ _ (t .3), eqb-true _ _ (t .4))
+      let from = and-left (leb 1 (levelOf s c)) (leb (levelOf s c) (levelsIn s)) (t .1) in
+      let to = and-right (leb 1 (levelOf s c)) (leb (levelOf s c) (levelsIn s)) (t .1) in
+      (t .0, leb-true 1 _ from, leb-true _ _ to, t .2, eqb-true _ _ (t .3), eqb-true _ _ (t .4))
 
-  pub person-in-order : personOk s c ≡ true → ((n : ℕ) → EndsAfter s stepsChain n → onlyBelow n (permittedOf s c) ≡ true) → PersonInOrder s c
-  person-in-order h late =
+  pub person-in-order : classLevels s ≤ mostClassLevels → personOk s c ≡ true → ((n : ℕ) → EndsAfter s stepsChain n → onlyBelow n (permittedOf s c) ≡ true) → PersonInOrder s c
+  person-in-order few h late =
       let t = person-fields h in
       record {
         tag = t .1;
-        shop = t .2;
-        bench = t .3;
-        permitted = bit-below 12 (permittedOf s c) (t .4);
+        used = λ q l m. field-used (classLevels s) q (classOf s q c) (t .3 q l (omega arith)) m;
+        unused = λ q l m. field-unused (classLevels s) q (classOf s q c) (t .3 q (omega arith) m) l;
+        permitted = bit-below 12 (permittedOf s c) (t .2);
         steps = λ n e l. bit-below n (permittedOf s c) (late n e);
         second = t .0;
-        unnamed = word-zero s c 14 (t .5);
       }
 
   pub person-true : PersonInOrder s c → personOk s c ≡ true
@@ -191,12 +232,15 @@ module _ (s : List ℕ) (c : ℕ) where
       rw (
         eq-eqb (cardByte s c 1) 0 (h .second),
         ne-eqb (tagOf s c) 0 (not-zero (h .tag)),
-        ne-eqb (shopOf s c) 0 (not-zero (h .shop)),
-        ne-eqb (benchOf s c) 0 (not-zero (h .bench)),
         only-below 12 (permittedOf s c) (h .permitted),
-        eq-eqb (cardWord s c 14) 0 (zero-word s c 14 (h .unnamed)),
+        good 1 (omega arith) (omega arith),
+        good 2 (omega arith) (omega arith),
+        good 3 (omega arith) (omega arith),
       )
       refl
+    where
+      good : (q : ℕ) → 1 ≤ q → q ≤ mostClassLevels → classFieldOk (classLevels s) q (classOf s q c) ≡ true
+      good q l m = field-true (classLevels s) q (classOf s q c) (h .used q l) (λ k. h .unused q k m)
 
   pub step-in-order : stepOk s c ≡ true → StepInOrder s c
   step-in-order h = let t = step-fields h in record { tag = t .1; skipped = one-or-none (skippedOf s c) (t .0); unnamed = eight-zero s c (t .2) (t .3) }
@@ -229,7 +273,7 @@ module _ (s : List ℕ) (c : ℕ) where
       rw (
         limit-true (ruleKindOf s c) (limitOf s c) (scopeSize (scopeOf s c)) (h .limit),
         le-leb 1 (levelOf s c) (h .level-from),
-        le-leb (levelOf s c) 3 (h .level-to),
+        le-leb (levelOf s c) (levelsIn s) (h .level-to),
         only-below steps (scopeOf s c) (h .scope steps e),
         eq-eqb (cardLong s c 8) 0 (low-zero s c (h .unnamed)),
         eq-eqb (cardLong s c 12) 0 (high-zero s c (h .unnamed)),

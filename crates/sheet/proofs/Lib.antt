@@ -1,6 +1,8 @@
 pub mod Fill
+pub mod Columns
 pub mod Tests
 pub mod Clashes
+pub mod Either
 pub mod Checked
 pub mod Four
 pub mod Arrays

@@ -9,23 +9,24 @@ use lib.Dec.{ltb}
 use lib.ListN.{length, getD}
 use borrow.Author.Tests.{eqb-false, ltb-true, ltb-false}
 use Rattle.bits.specs.Member.{member}
+use Rattle.bits.specs.Sizes.{mostClassLevels}
 use Rattle.bits.proofs.Below.{by-cases, true-false}
 use Rattle.bits.proofs.Counting.{is-false}
 use Rattle.bits.proofs.Masks.{or-cases, or-left, or-right}
 use Rattle.bits.proofs.Member.{member-has, member-append}
 use Rattle.card.specs.Layout.{kindOf}
-use Rattle.card.specs.Fields.{headerOk, permittedOf, onlyBelow}
+use Rattle.card.specs.Fields.{headerOk, classLevels, permittedOf, onlyBelow}
 use Rattle.sheet.specs.Read.{Read, job, fault, lengthOk, readSheet, onTwo, firstClash, sameTag}
 use Rattle.sheet.specs.Faults as faults
 use Rattle.sheet.specs.Faults.{ChainName, peopleChain, stepsChain, rulesChain, rank, cardsIn, kindAlong, mostAlong, indexAt, firstIndex}
-use Rattle.sheet.specs.Faults.{ComesTo, InOrder, IndexBefore, Clashes, SameTags, SameBenchOtherShop, Fault}
+use Rattle.sheet.specs.Faults.{ComesTo, InOrder, IndexBefore, Clashes, SameTags, SameClassOtherAbove, Fault}
 use Rattle.sheet.specs.Readable.{Chains}
 use Rattle.sheet.proofs.Chains.{chains}
-use Rattle.sheet.proofs.InOrder.{length-right, header-in-order, person-in-order, step-in-order, rule-in-order}
+use Rattle.sheet.proofs.InOrder.{length-right, header-levels, header-in-order, person-in-order, step-in-order, rule-in-order}
 use Rattle.sheet.proofs.Indices.{Traced, traced, comes-before-end, comes-card, comes-member, leads-before-end, ends-once, member-comes}
 use Rattle.sheet.proofs.Order.{length-facts}
 use Rattle.sheet.proofs.Passes.{Passes, sheet-passes}
-use Rattle.sheet.proofs.Readable.{person-card, step-card, rule-card, not-late, no-clash, later-shop}
+use Rattle.sheet.proofs.Readable.{person-card, step-card, rule-card, not-late, no-clash, later-above}
 use Rattle.sheet.proofs.Refusals.{refusal-is-fault}
 
 -- the cards of a chain
@@ -62,12 +63,12 @@ module _ (s people steps rules : List ℕ) (some : 0 < cardsIn s) (p : Passes s 
   at : (k : ChainName) (P : ℕ → Type 0) → ((j : ℕ) → j < length (cardsOf k) → P (getD (cardsOf k) j 0)) → (j c : ℕ) → ComesTo s k j c → P c
   at k P h j c w = subst P (comes-card (trace k) j c w) (h j (comes-before-end (trace k) j c w))
 
-  in-order : (k : ChainName) (j : ℕ) → j < length (cardsOf k) → InOrder s k (getD (cardsOf k) j 0)
-  in-order peopleChain j l =
-      person-in-order s (getD people j 0) (person-card s people steps rules (cardsIn s) p j l)
+  in-order : classLevels s ≤ mostClassLevels → (k : ChainName) (j : ℕ) → j < length (cardsOf k) → InOrder s k (getD (cardsOf k) j 0)
+  in-order few peopleChain j l =
+      person-in-order s (getD people j 0) few (person-card s people steps rules (cardsIn s) p j l)
       (λ n e. subst (λ (m : ℕ). onlyBelow m (permittedOf s (getD people j 0)) ≡ true) (sym (ends-once (trace stepsChain) n e)) (not-late s people steps rules (cardsIn s) p j l))
-  in-order stepsChain j l = step-in-order s (getD steps j 0) (step-card s people steps rules (cardsIn s) p j l)
-  in-order rulesChain j l = rule-in-order s (getD rules j 0) (length steps) (rule-card s people steps rules (cardsIn s) p j l) (ends-once (trace stepsChain))
+  in-order few stepsChain j l = step-in-order s (getD steps j 0) (step-card s people steps rules (cardsIn s) p j l)
+  in-order few rulesChain j l = rule-in-order s (getD rules j 0) (length steps) (rule-card s people steps rules (cardsIn s) p j l) (ends-once (trace stepsChain))
 
   no-index-too-high : (k : ChainName) (j : ℕ) → faults.LeadsUpTo s k j → cardsIn s ≤ indexAt s k j → ⊥
   no-index-too-high k j w h =
@@ -137,7 +138,7 @@ module _ (s people steps rules : List ℕ) (some : 0 < cardsIn s) (p : Passes s 
       let r = w .reached in no-reached-before (r .chain) (w .chain) (r .number) (w .number) c (r .came) (w .comes) (r .earlier)
   passes-no-fault a b f c (faults.other-kind e w) =
       w .other (at (w .chain) (λ (x : ℕ). kindOf s x ≡ kindAlong (w .chain)) (trace (w .chain) .kinds) (w .number) c (w .comes))
-  passes-no-fault a b f c (faults.wrong-field e w) = w .wrong (at (w .chain) (InOrder s (w .chain)) (in-order (w .chain)) (w .number) c (w .comes))
+  passes-no-fault a b f c (faults.wrong-field e w) = w .wrong (at (w .chain) (InOrder s (w .chain)) (in-order (header-levels s (cardsIn s) b .1) (w .chain)) (w .number) c (w .comes))
   passes-no-fault a b f c (faults.none-along e w) = ⊎-elim (first-some peopleChain (p .people-some)) (first-some stepsChain (p .steps-some)) (w .none)
   passes-no-fault a b f c (faults.too-many e w) =
       let l = comes-before-end (trace (w .chain)) (mostAlong (w .chain)) c (w .comes) in let m = few (w .chain) in omega arith
@@ -145,9 +146,9 @@ module _ (s people steps rules : List ℕ) (some : 0 < cardsIn s) (p : Passes s 
       no-clashes peopleChain (SameTags s) (same-tags-not people (p .people-tags)) (w .number) c (w .clashes)
   passes-no-fault a b f c (faults.tag-twice e (inr w)) =
       no-clashes stepsChain (SameTags s) (same-tags-not steps (p .steps-tags)) (w .number) c (w .clashes)
-  passes-no-fault a b f c (faults.bench-in-two-shops e w) =
-      no-clashes peopleChain (SameBenchOtherShop s)
-      (λ i j l m h. h .1 (later-shop s people steps rules (cardsIn s) p i j l m (h .0))) (w .number) c (w .clashes)
+  passes-no-fault a b f c (faults.class-in-two e w) =
+      no-clashes peopleChain (SameClassOtherAbove s)
+      (λ i j l m h. h .other (later-above s people steps rules (cardsIn s) p (h .above) i j (h .from) (h .below) l m (h .same))) (w .number) c (w .clashes)
   passes-no-fault a b f c (faults.on-no-chain e w) = let x = covered c (w .some) (w .inside) in w .none (x .0) (x .1) (x .2)
 
 -- a readable sheet has none of the faults

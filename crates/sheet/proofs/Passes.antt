@@ -10,7 +10,7 @@ use borrow.Author.Tests.{eqb-false, ltb-false, not-false}
 use Rattle.card.specs.Fields.{headerOk}
 use Rattle.chain.specs.Walk.{Walked, listed, refused}
 use Rattle.sheet.specs.Read.{Read, job, along, unless, lengthOk, checked, stepsRead, peopleRead, readPeople, readSheet}
-use Rattle.sheet.specs.Read.{firstClash, firstLate, firstLoose, sameTag, benchMoved, onThree, peopleWalk, stepsWalk, rulesWalk}
+use Rattle.sheet.specs.Read.{firstClash, firstLate, firstLoose, sameTag, classMoved, onThree, peopleWalk, stepsWalk, rulesWalk}
 
 -- a test that was passed: it did not refuse, and the rest gives the same
 unless-job : (t : Bool) (f c : ℕ) (r : Read) (people steps rules : List ℕ) → unless t f c r ≡ job people steps rules → (t ≡ false) × (r ≡ job people steps rules)
@@ -37,21 +37,21 @@ pub record Passes (s : List ℕ) (n : ℕ) (people steps rules : List ℕ) : Typ
   pub rules-walk : rulesWalk s n people steps (length steps) ≡ listed rules
   pub people-tags : length people ≤ firstClash (length people) (sameTag s people)
   pub steps-tags : length steps ≤ firstClash (length steps) (sameTag s steps)
-  pub benches : length people ≤ firstClash (length people) (benchMoved s people)
+  pub classes : length people ≤ firstClash (length people) (classMoved s people)
   pub no-loose : n ≤ firstLoose n (onThree people steps rules)
 
 module _ (s : List ℕ) (n : ℕ) (people′ steps′ rules′ : List ℕ) where
   checked-job : (people steps rules : List ℕ) → checked s n people steps rules ≡ job people′ steps′ rules′
       → (length people ≤ firstClash (length people) (sameTag s people))
       × (length steps ≤ firstClash (length steps) (sameTag s steps))
-      × (length people ≤ firstClash (length people) (benchMoved s people))
+      × (length people ≤ firstClash (length people) (classMoved s people))
       × (n ≤ firstLoose n (onThree people steps rules))
       × (job people steps rules ≡ job people′ steps′ rules′)
   unfolding checked
   checked-job people steps rules e =
       let i = firstClash (length people) (sameTag s people) in
       let k = firstClash (length steps) (sameTag s steps) in
-      let b = firstClash (length people) (benchMoved s people) in
+      let b = firstClash (length people) (classMoved s people) in
       let c = firstLoose n (onThree people steps rules) in
       let p₁ = unless-job (ltb i (length people)) _ _ _ people′ steps′ rules′ e in
       let p₂ = unless-job (ltb k (length steps)) _ _ _ people′ steps′ rules′ (p₁ .1) in
@@ -82,7 +82,7 @@ module _ (s : List ℕ) (n : ℕ) (people′ steps′ rules′ : List ℕ) where
         rules-walk = d .walked;
         people-tags = c .0;
         steps-tags = c .1;
-        benches = c .2;
+        classes = c .2;
         no-loose = c .3;
       } in
       same p t r (c .4) all

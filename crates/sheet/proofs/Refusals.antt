@@ -1,10 +1,10 @@
 -- A refusal of the reader is a fault of the sheet at the card that it names; it is one of 3 to 12, at a card that a sheet can have.
 -- Assumes nothing.
-use mathlib.Core.Bool.{Bool, true, false, not, _||_}
+use mathlib.Core.Bool.{Bool, true, false, not, _&&_, _||_}
 use mathlib.Core.List.{List, []}
 use mathlib.Core.Logic.{inl, inr}
 use mathlib.Core.Path.{_≡_, refl, sym, _∙_, ap, ap₂, subst}
-use Prim.Native.Nat.{ℕ, zero, suc, _<_, _≤_}
+use Prim.Native.Nat.{ℕ, zero, suc, _-_, _<_, _≤_}
 use native.Mathlib.Omega.{arith}
 use lib.Dec.{eqb, ltb}
 use lib.ListN.{length, getD}
@@ -12,12 +12,12 @@ use borrow.Author.Tests.{eqb-true, eqb-false, eq-eqb, ne-eqb, ltb-true, not-true
 use Rattle.bits.specs.Below.{any}
 use Rattle.bits.specs.Member.{member}
 use Rattle.bits.proofs.Below.{by-cases, true-false, below-suc, and-left, and-right, first-has, first-none}
-use Rattle.bits.proofs.Counting.{any-at, any-none}
+use Rattle.bits.proofs.Counting.{any-of, any-at, any-none}
 use Rattle.bits.proofs.Masks.{or-cases, or-left, or-right}
 use Rattle.bits.proofs.Member.{member-place, member-not}
 use Rattle.card.specs.Layout.{kindOf, personKind, stepKind, ruleKind}
-use Rattle.card.specs.Fields.{headerOk, fieldsOk, benchOf, permittedOf, onlyBelow}
-use Rattle.card.specs.Refusals.{lengthFault, headerFault, reachedFault, fieldFault, countFault, tagFault, benchFault, looseFault}
+use Rattle.card.specs.Fields.{headerOk, fieldsOk, classLevels, permittedOf, onlyBelow}
+use Rattle.card.specs.Refusals.{lengthFault, headerFault, reachedFault, fieldFault, countFault, tagFault, classFault, looseFault}
 use Rattle.card.proofs.ByKind.{fields-person, fields-step, fields-rule}
 use Rattle.chain.specs.Walk.{Walked, listed, refused, walk}
 use Rattle.chain.specs.Answer.{chainOf}
@@ -25,11 +25,11 @@ use Rattle.chain.specs.Chained.{Upto, StopsAt, at-index, at-reached, at-count, 
 use Rattle.chain.proofs.Chained.{walk-chained}
 use Rattle.chain.proofs.Refused.{walk-stopped}
 use Rattle.sheet.specs.Read.{Read, job, fault, along, unless, lengthOk, checked, stepsRead, peopleRead, readPeople, readSheet}
-use Rattle.sheet.specs.Read.{firstClash, firstLate, firstLoose, sameTag, benchMoved, onTwo, onThree}
+use Rattle.sheet.specs.Read.{firstClash, firstLate, firstLoose, sameTag, sameClass, classMoved, onTwo, onThree}
 use Rattle.sheet.specs.Answer.{answer, sheetOf}
 use Rattle.sheet.specs.Faults as faults
 use Rattle.sheet.specs.Faults.{ChainName, peopleChain, stepsChain, rulesChain, rank, firstIndex, kindAlong, mostAlong, indexAt, cardsIn}
-use Rattle.sheet.specs.Faults.{ComesTo, InOrder, IndexBefore, Reached, FirstClashing, SameTags, SameBenchOtherShop, OnNoChain, Fault}
+use Rattle.sheet.specs.Faults.{ComesTo, InOrder, IndexBefore, Reached, FirstClashing, SameTags, SameClassOtherAbove, OnNoChain, Fault}
 use Rattle.sheet.specs.Readable.{ReadRefusal}
 use Rattle.sheet.specs.declared.Reading.the-variants.{Refused}
 use Rattle.sheet.proofs.InOrder.{only-below, length-wrong, header-true, person-true, step-true, rule-true}
@@ -183,6 +183,29 @@ module _ {s : List ℕ} {k : ChainName} {l : List ℕ} (t : Traced s k l) (test 
             (any-none j (λ x. test x j) (first-none (length l) (λ m. any m (λ x. test x m)) j m) (c .earlier-number) (c .earlier));
       }
 
+-- the test of a class with two above says so, and the other way round
+module _ (s l : List ℕ) (i k : ℕ) where
+  moved-above : classMoved s l i k ≡ true → SameClassOtherAbove s (getD l i 0) (getD l k 0)
+  moved-above h =
+      let w = any-at (classLevels s - 1) (λ q. sameClass s l (suc (suc q)) i k && not (sameClass s l (suc q) i k)) h in
+      let t = w .2 in
+      record {
+        above = suc (w .0);
+        from = omega arith;
+        below = let l = w .1 in omega arith;
+        same = eqb-true _ _ (and-left (sameClass s l (suc (suc (w .0))) i k) _ t);
+        other = eqb-false _ _ (not-true _ (and-right (sameClass s l (suc (suc (w .0))) i k) _ t));
+      }
+
+  above-moved : SameClassOtherAbove s (getD l i 0) (getD l k 0) → classMoved s l i k ≡ true
+  above-moved w =
+      let q = w .above in
+      let z : suc (q - 1) ≡ q = let f = w .from in omega arith in
+      let t : (sameClass s l (suc q) i k && not (sameClass s l q i k)) ≡ true = rw (eq-eqb _ _ (w .same), ne-eqb _ _ (w .other)) refl in
+      any-of (classLevels s - 1) (λ r. sameClass s l (suc (suc r)) i k && not (sameClass s l (suc r) i k)) (q - 1)
+      (let f = w .from in let b = w .below in omega arith)
+      (subst (λ (r : ℕ). (sameClass s l (suc r) i k && not (sameClass s l r i k)) ≡ true) (sym z) t)
+
 -- a card that is none of the people is on no chain before the steps
 people-missed : {s people : List ℕ} → Traced s peopleChain people → (c : ℕ) → member people c ≡ false → (l : ChainName) (j : ℕ) → rank l < 1 → ComesTo s l j c → ⊥
 people-missed t c b peopleChain j h w = true-false (comes-member t j c w) b
@@ -230,7 +253,7 @@ module _ (s : List ℕ) (g d : ℕ) where
     checked-fault rules tr e =
         let i = firstClash (length people) (sameTag s people) in
         let j = firstClash (length steps) (sameTag s steps) in
-        let b = firstClash (length people) (benchMoved s people) in
+        let b = firstClash (length people) (classMoved s people) in
         let c = firstLoose (cardsIn s) (onThree people steps rules) in
         unless-fault (ltb i (length people)) tagFault (getD people i 0) _ g d e
         (λ t x y. faults.tag-twice x
@@ -240,12 +263,10 @@ module _ (s : List ℕ) (g d : ℕ) where
         (λ t x y. faults.tag-twice x
         (inr (subst (FirstClashing s stepsChain (SameTags s)) y
         (first-clashing ts (sameTag s steps) (SameTags s) (λ v w. eqb-true _ _) (λ v w. eq-eqb _ _) (ltb-true _ _ t)))))
-        (λ t e₂. unless-fault (ltb b (length people)) benchFault (getD people b 0) _ g d e₂
-        (λ t x y. faults.bench-in-two-shops x
-        (subst (FirstClashing s peopleChain (SameBenchOtherShop s)) y
-        (first-clashing tp (benchMoved s people) (SameBenchOtherShop s)
-        (λ v w h. (eqb-true _ _ (and-left _ _ h), eqb-false _ _ (not-true _ (and-right (eqb (benchOf s (getD people v 0)) (benchOf s (getD people w 0))) _ h))))
-        (λ v w h. rw (eq-eqb _ _ (h .0), ne-eqb _ _ (h .1)) refl) (ltb-true _ _ t))))
+        (λ t e₂. unless-fault (ltb b (length people)) classFault (getD people b 0) _ g d e₂
+        (λ t x y. faults.class-in-two x
+        (subst (FirstClashing s peopleChain (SameClassOtherAbove s)) y
+        (first-clashing tp (classMoved s people) (SameClassOtherAbove s) (moved-above s people) (above-moved s people) (ltb-true _ _ t))))
         (λ t e₃. unless-fault (ltb c (cardsIn s)) looseFault c _ g d e₃
         (λ t x y. faults.on-no-chain x (subst (OnNoChain s) y (loose rules tr (ltb-true _ _ t))))
         (λ t z. let a : _≡_ {A = ℕ} 0 1 = cc in absurd (omega arith)))))
@@ -329,7 +350,7 @@ fault-range s f c (faults.wrong-field e w) = (omega arith, omega arith)
 fault-range s f c (faults.none-along e w) = (omega arith, omega arith)
 fault-range s f c (faults.too-many e w) = (omega arith, omega arith)
 fault-range s f c (faults.tag-twice e w) = (omega arith, omega arith)
-fault-range s f c (faults.bench-in-two-shops e w) = (omega arith, omega arith)
+fault-range s f c (faults.class-in-two e w) = (omega arith, omega arith)
 fault-range s f c (faults.on-no-chain e w) = (omega arith, omega arith)
 
 comes-inside : {s : List ℕ} {k : ChainName} (j : ℕ) {c : ℕ} → ComesTo s k j c → c < cardsIn s
@@ -351,7 +372,7 @@ fault-inside s f c z (faults.none-along e w) = let d = w .card in omega arith
 fault-inside s f c z (faults.too-many e w) = comes-inside (mostAlong (w .chain)) (w .comes)
 fault-inside s f c z (faults.tag-twice e (inl w)) = comes-inside (w .number) (w .clashes .comes)
 fault-inside s f c z (faults.tag-twice e (inr w)) = comes-inside (w .number) (w .clashes .comes)
-fault-inside s f c z (faults.bench-in-two-shops e w) = comes-inside (w .number) (w .clashes .comes)
+fault-inside s f c z (faults.class-in-two e w) = comes-inside (w .number) (w .clashes .comes)
 fault-inside s f c z (faults.on-no-chain e w) = w .inside
 
 -- a sheet of a wrong length is refused for it

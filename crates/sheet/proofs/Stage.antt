@@ -7,6 +7,8 @@ use native.Mathlib.Omega.{arith}
 use lib.ListN.{length, getD, take, replicate}
 use lib.Seq.{length-take-le, getD-take}
 use Rattle.bits.specs.Member.{member}
+use Rattle.bits.specs.Sizes.{mostClassLevels}
+use Rattle.card.specs.Fields.{classLevels}
 use Rattle.chain.specs.Walk.{listed, refused, walk}
 use Rattle.chain.specs.Answer.{Walks, asWalked, chainOf, marked, listedCount}
 use Rattle.chain.specs.declared.Ended.{Ended}
@@ -55,14 +57,16 @@ module _ {s : List ℕ} {cards : ℕ} (kind steps : ℕ) {most first : ℕ} {mar
           some = m .some;
           most = m .most;
           whole = m .whole;
+          levels = m .levels;
           size = w .marks-length;
           so-far = λ c. w .marking (take n list) (walk-reached ∙ stage-listed) c ∙ ap (λ (b : Bool). b || member (take n list) c) (m .so-far c);
         }
 
 -- before any chain no card is marked
-pub nothing-marked : (s : List ℕ) (cards : ℕ) → 0 < cards → cards ≤ 141 → 16 * cards ≤ length s → Marking s cards (replicate 141 false) (λ c. false)
-nothing-marked s cards l m w =
-    record { some = l; most = m; whole = w; size = refl; so-far = λ c. none-set 141 c }
+pub nothing-marked : (s : List ℕ) (cards : ℕ) → 0 < cards → cards ≤ 141 → 16 * cards ≤ length s → classLevels s ≤ mostClassLevels
+    → Marking s cards (replicate 141 false) (λ c. false)
+nothing-marked s cards l m w few =
+    record { some = l; most = m; whole = w; levels = few; size = refl; so-far = λ c. none-set 141 c }
   where
     none-set : (n c : ℕ) → getD (replicate n false) c false ≡ false
     none-set zero c = refl

@@ -8,8 +8,8 @@ use Prim.Native.Nat.{ℕ, zero, suc, _/_, _%_, _<_, _≤_}
 use lib.ListN.{length}
 use Rattle.bits.specs.Word.{hasBit}
 use Rattle.card.specs.Layout.{cardByte, cardWord, kindOf, nextOf, headerKind, personKind, stepKind, ruleKind}
-use Rattle.card.specs.Fields.{firstPerson, firstStep, firstRule, tagOf, shopOf, benchOf, permittedOf, skippedOf, ruleKindOf, levelOf, limitOf, scopeOf, scopeSize}
-use Rattle.card.specs.Refusals.{lengthFault, headerFault, indexFault, reachedFault, kindFault, fieldFault, countFault, tagFault, benchFault, looseFault}
+use Rattle.card.specs.Fields.{versionOf, levelsByte, classLevels, levelsIn, firstPerson, firstStep, firstRule, tagOf, classOf, permittedOf, skippedOf, ruleKindOf, levelOf, limitOf, scopeOf, scopeSize}
+use Rattle.card.specs.Refusals.{lengthFault, headerFault, indexFault, reachedFault, kindFault, fieldFault, countFault, tagFault, classFault, looseFault}
 
 -- "the number of cards in the file", "the length / 16"
 abbrev pub cardsIn : List ℕ → ℕ
@@ -76,24 +76,25 @@ IndexBefore k i l j = (rank k < rank l) ⊎ ((k ≡ l) × (i < j))
 
 -- ---- the cards as they should be
 
--- "Header, card 0: byte 1 is 1, next is 0; .. bytes 10-11 the number of cards in the file." "Bytes not named below are zero."
+-- "Header, card 0: byte 1 is 1, next is 0; .. bytes 10-11 the number of cards in the file." "Bytes not named below are zero." "In a version 2
+-- sheet (header byte 1 is 2) header byte 12 gives the number of class levels above the person, 1 to 3"
 pub record HeaderInOrder (s : List ℕ) : Type 0 where
   pub kind : kindOf s 0 ≡ headerKind
-  pub one : cardByte s 0 1 ≡ 1
+  pub version : ((versionOf s ≡ 1) × (levelsByte s ≡ 0)) ⊎ ((versionOf s ≡ 2) × (1 ≤ levelsByte s) × (levelsByte s ≤ 3))
   pub next : nextOf s 0 ≡ 0
   pub cards : cardWord s 0 10 ≡ cardsIn s
-  pub unnamed : (b : ℕ) → 12 ≤ b → b < 16 → cardByte s 0 b ≡ 0
+  pub unnamed : (b : ℕ) → 13 ≤ b → b < 16 → cardByte s 0 b ≡ 0
 
 -- "Tag, shop and bench are not zero. The permitted set may be empty." "A person's permitted bits 12 to 15 are tested on the card; bits not
--- below the number of steps .. when the step chain has ended with at least one step"
+-- below the number of steps .. when the step chain has ended with at least one step" "bytes 8-9, 10-11 and 14-15 of a person card, not zero
+-- where used, zero where not"
 pub record PersonInOrder (s : List ℕ) (c : ℕ) : Type 0 where
   pub tag : 0 < tagOf s c
-  pub shop : 0 < shopOf s c
-  pub bench : 0 < benchOf s c
+  pub used : (q : ℕ) → 1 ≤ q → q ≤ classLevels s → 0 < classOf s q c
+  pub unused : (q : ℕ) → classLevels s < q → q ≤ 3 → classOf s q c ≡ 0
   pub permitted : (b : ℕ) → hasBit (permittedOf s c) b ≡ true → b < 12
   pub steps : (n : ℕ) → EndsAfter s stepsChain n → 0 < n → (b : ℕ) → hasBit (permittedOf s c) b ≡ true → b < n
   pub second : cardByte s c 1 ≡ 0
-  pub unnamed : (b : ℕ) → 14 ≤ b → b < 16 → cardByte s c b ≡ 0
 
 -- "Step: bytes 4-7 tag, not zero." "Byte 1 of a step card may be 1, skipped."
 pub record StepInOrder (s : List ℕ) (c : ℕ) : Type 0 where
@@ -115,11 +116,11 @@ LimitInOrder (suc (suc (suc (suc zero)))) limit size = (2 ≤ size) × (1 ≤ li
 LimitInOrder (suc (suc (suc (suc (suc n))))) limit size = ⊥
 
 -- "Rule: byte 1 rule kind 1 to 4; byte 4 level 1 to 3; byte 5 limit; bytes 6-7 scope, bit j for step j; bits not below the number of steps are
--- zero, or this card gets 8."
+-- zero, or this card gets 8." "The person is the level after the last, and the highest a rule may name"
 pub record RuleInOrder (s : List ℕ) (c : ℕ) : Type 0 where
   pub limit : LimitInOrder (ruleKindOf s c) (limitOf s c) (scopeSize (scopeOf s c))
   pub level-from : 1 ≤ levelOf s c
-  pub level-to : levelOf s c ≤ 3
+  pub level-to : levelOf s c ≤ levelsIn s
   pub scope : (n : ℕ) → EndsAfter s stepsChain n → (b : ℕ) → hasBit (scopeOf s c) b ≡ true → b < n
   pub unnamed : (b : ℕ) → 8 ≤ b → b < 16 → cardByte s c b ≡ 0
 
@@ -219,12 +220,17 @@ SameTags s a c = tagOf s a ≡ tagOf s c
 abbrev pub TagTwice : List ℕ → ℕ → Type 0
 TagTwice s c = FirstClashing s peopleChain (SameTags s) c ⊎ FirstClashing s stepsChain (SameTags s) c
 
--- "11: a bench in two shops. The first person whose bench stood earlier with another shop."
-abbrev pub SameBenchOtherShop : List ℕ → ℕ → ℕ → Type 0
-SameBenchOtherShop s a c = (benchOf s a ≡ benchOf s c) × (shopOf s a ≡ shopOf s c → ⊥)
+-- "11: a bench in two shops. The first person whose bench stood earlier with another shop." "Refusal 11 covers any class lying in two classes
+-- of the level above (the first person in crew order to show it)": two people share a class of some class level, and not that above it
+pub record SameClassOtherAbove (s : List ℕ) (a c : ℕ) : Type 0 where
+  pub above : ℕ
+  pub from : 1 ≤ above
+  pub below : suc above ≤ classLevels s
+  pub same : classOf s (suc above) a ≡ classOf s (suc above) c
+  pub other : classOf s above a ≡ classOf s above c → ⊥
 
-abbrev pub BenchInTwoShops : List ℕ → ℕ → Type 0
-BenchInTwoShops s c = FirstClashing s peopleChain (SameBenchOtherShop s) c
+abbrev pub ClassInTwo : List ℕ → ℕ → Type 0
+ClassInTwo s c = FirstClashing s peopleChain (SameClassOtherAbove s) c
 
 -- "12: a card on no chain. The lowest."
 pub record OnNoChain (s : List ℕ) (c : ℕ) : Type 0 where
@@ -244,5 +250,5 @@ pub data Fault (s : List ℕ) (f c : ℕ) : Type 0 where
   none-along : f ≡ countFault → NoneAlong s c → Fault s f c
   too-many : f ≡ countFault → TooMany s c → Fault s f c
   tag-twice : f ≡ tagFault → TagTwice s c → Fault s f c
-  bench-in-two-shops : f ≡ benchFault → BenchInTwoShops s c → Fault s f c
+  class-in-two : f ≡ classFault → ClassInTwo s c → Fault s f c
   on-no-chain : f ≡ looseFault → OnNoChain s c → Fault s f c

@@ -1,15 +1,15 @@
--- Reading a sheet, in the order of the papers: length, header, people chain, steps chain, late permitted bits, rules chain, tags, benches,
+-- Reading a sheet, in the order of the papers: length, header, people chain, steps chain, late permitted bits, rules chain, tags, classes,
 -- loose cards. "The first found is given." Assumes nothing.
 use mathlib.Core.Bool.{Bool, false, not, cond, _&&_, _||_}
 use mathlib.Core.List.{List, []}
-use Prim.Native.Nat.{ℕ, _/_, _%_}
+use Prim.Native.Nat.{ℕ, suc, _-_, _/_, _%_}
 use lib.Dec.{eqb, leb, ltb}
 use lib.ListN.{length, getD}
 use Rattle.bits.specs.Below.{any, first}
 use Rattle.bits.specs.Member.{member}
 use Rattle.card.specs.Layout.{personKind, stepKind, ruleKind}
-use Rattle.card.specs.Fields.{headerOk, firstPerson, firstStep, firstRule, tagOf, shopOf, benchOf, permittedOf, nonzero, onlyBelow}
-use Rattle.card.specs.Refusals.{lengthFault, headerFault, fieldFault, countFault, tagFault, benchFault, looseFault}
+use Rattle.card.specs.Fields.{headerOk, classLevels, firstPerson, firstStep, firstRule, tagOf, classOf, permittedOf, nonzero, onlyBelow}
+use Rattle.card.specs.Refusals.{lengthFault, headerFault, fieldFault, countFault, tagFault, classFault, looseFault}
 use Rattle.chain.specs.Walk.{Walked, listed, refused, walk}
 use Rattle.chain.specs.Answer.{chainOf}
 
@@ -53,10 +53,12 @@ firstClash n clash = first n (λ k. any k (λ j. clash j k))
 abbrev pub sameTag : List ℕ → List ℕ → ℕ → ℕ → Bool
 sameTag s l j k = eqb (tagOf s (getD l j 0)) (tagOf s (getD l k 0))
 
--- "Two people on one bench are in one shop"
-abbrev pub benchMoved : List ℕ → List ℕ → ℕ → ℕ → Bool
-benchMoved s l j k =
-    eqb (benchOf s (getD l j 0)) (benchOf s (getD l k 0)) && not (eqb (shopOf s (getD l j 0)) (shopOf s (getD l k 0)))
+abbrev pub sameClass : List ℕ → List ℕ → ℕ → ℕ → ℕ → Bool
+sameClass s l q j k = eqb (classOf s q (getD l j 0)) (classOf s q (getD l k 0))
+
+-- "any class lying in two classes of the level above", over all levels together: at some class level but the first, one class with two above
+abbrev pub classMoved : List ℕ → List ℕ → ℕ → ℕ → Bool
+classMoved s l j k = any (classLevels s - 1) (λ q. sameClass s l (suc (suc q)) j k && not (sameClass s l (suc q) j k))
 
 -- "bits not below the number of steps are tested under 8 when the step chain has ended with at least one step, in crew order, before the
 -- rules chain": the number of the first person with such a bit
@@ -83,7 +85,7 @@ unfoldable pub checked : List ℕ → ℕ → List ℕ → List ℕ → List ℕ
 checked s n people steps rules =
     unlessAt people (firstClash (length people) (sameTag s people)) tagFault
     (unlessAt steps (firstClash (length steps) (sameTag s steps)) tagFault
-    (unlessAt people (firstClash (length people) (benchMoved s people)) benchFault
+    (unlessAt people (firstClash (length people) (classMoved s people)) classFault
     (let c : ℕ = firstLoose n (onThree people steps rules) in
     unless (ltb c n) looseFault c (job people steps rules))))
 

@@ -3,9 +3,11 @@
 use mathlib.Core.Bool.{false}
 use mathlib.Core.List.{List, _++_}
 use mathlib.Core.Path.{_≡_}
-use Prim.Native.Nat.{ℕ, _/_, _^_, _<_, _≤_}
+use Prim.Native.Nat.{ℕ, suc, _/_, _^_, _<_, _≤_}
 use lib.ListN.{length, getD}
+use Rattle.bits.specs.Columns.{classEntry}
 use Rattle.bits.specs.Member.{member}
+use Rattle.bits.specs.Sizes.{mostLevels, classWords}
 use Rattle.card.specs.Layout.{personKind, stepKind, ruleKind}
 use Rattle.card.specs.Fields.{firstPerson, firstStep, firstRule}
 use Rattle.chain.specs.Answer.{chainOf}
@@ -31,14 +33,13 @@ pub record Chains (s : List ℕ) (n : ℕ) (people steps rules : List ℕ) : Typ
 -- the fields of person p
 pub record PersonFields (steps : ℕ) (j : SheetJob) (p : ℕ) : Type 0 where
   pub tag : 0 < getD (j .«person_tag») p 0
-  pub shop : 0 < getD (j .shop) p 0
-  pub bench : 0 < getD (j .bench) p 0
+  pub class : (q : ℕ) → 1 ≤ q → q < j .levels → 0 < classEntry (j .class) q p
   pub permitted : getD (j .permitted) p 0 < 2 ^ steps
 
 -- the fields of rule i
 pub record RuleFields (steps : ℕ) (j : SheetJob) (i : ℕ) : Type 0 where
   pub level-from : 1 ≤ getD (j .«rule_level») i 0
-  pub level-to : getD (j .«rule_level») i 0 ≤ 3
+  pub level-to : getD (j .«rule_level») i 0 ≤ j .levels
   pub scope : getD (j .«rule_scope») i 0 < 2 ^ steps
   pub limit : getD (j .«rule_limit») i 0 ≤ 12
 
@@ -47,8 +48,7 @@ pub record JobSized (j : SheetJob) : Type 0 where
   pub person-tag : length (j .«person_tag») ≡ 64
   pub step-tag : length (j .«step_tag») ≡ 12
   pub skipped : length (j .skipped) ≡ 64
-  pub shop : length (j .shop) ≡ 64
-  pub bench : length (j .bench) ≡ 64
+  pub class : length (j .class) ≡ classWords
   pub permitted : length (j .permitted) ≡ 64
   pub scope : length (j .«rule_scope») ≡ 64
   pub kind : length (j .«rule_kind») ≡ 64
@@ -61,6 +61,9 @@ pub record ReadableJob (people steps rules : ℕ) (j : SheetJob) : Type 0 where
   pub people-most : people ≤ 64
   pub steps-most : steps ≤ 12
   pub rules-most : rules ≤ 64
+  -- one to three class levels, and the person
+  pub levels-some : 2 ≤ j .levels
+  pub levels-most : j .levels ≤ mostLevels
   pub sized : JobSized j
   pub person : (p : ℕ) → p < people → PersonFields steps j p
   pub step-tag : (t : ℕ) → t < steps → 0 < getD (j .«step_tag») t 0
@@ -68,8 +71,9 @@ pub record ReadableJob (people steps rules : ℕ) (j : SheetJob) : Type 0 where
   -- tags differ
   pub person-tags : (p q : ℕ) → p < q → q < people → getD (j .«person_tag») p 0 ≡ getD (j .«person_tag») q 0 → ⊥
   pub step-tags : (t u : ℕ) → t < u → u < steps → getD (j .«step_tag») t 0 ≡ getD (j .«step_tag») u 0 → ⊥
-  -- classes nest: "Two people on one bench are in one shop"
-  pub nested : (p q : ℕ) → p < people → q < people → getD (j .bench) p 0 ≡ getD (j .bench) q 0 → getD (j .shop) p 0 ≡ getD (j .shop) q 0
+  -- classes nest: "Two people on one bench are in one shop"; no class lies in two classes of the level above
+  pub nested : (q p r : ℕ) → 1 ≤ q → suc q < j .levels → p < people → r < people
+      → classEntry (j .class) (suc q) p ≡ classEntry (j .class) (suc q) r → classEntry (j .class) q p ≡ classEntry (j .class) q r
 
 -- what is known where the reader gives counts, of the sheet s and of the job j beside them
 pub record ReadSheet (s : List ℕ) (people steps rules : ℕ) (j : SheetJob) : Type 0 where

@@ -1,4 +1,4 @@
--- What is known of the tags and the benches before k. Assumes nothing.
+-- What is known of the tags and the classes before k. Assumes nothing.
 use mathlib.Core.Bool.{Bool, true, false}
 use mathlib.Core.List.{List}
 use mathlib.Core.Path.{_≡_}
@@ -13,6 +13,6 @@ pub record SlotsMarked (tags : List ℕ) (k : ℕ) (marks : List Bool) : Type 0 
   pub size : length marks ≡ 1024
   pub each : (j : ℕ) → j < k → getD marks (slotOf tags j) false ≡ true
 
--- none of the benches stood earlier with another shop
-pub record Unmoved (benches shops : List ℕ) (k : ℕ) : Type 0 where
-  pub each : (i : ℕ) → i < k → any i (λ j. movedAt benches shops j i) ≡ false
+-- none of the classes stood earlier with another above
+pub record Unmoved (below above : List ℕ) (k : ℕ) : Type 0 where
+  pub each : (i : ℕ) → i < k → any i (λ j. movedAt below above j i) ≡ false

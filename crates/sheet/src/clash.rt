@@ -1,13 +1,16 @@
-// The first of several that clashes with an earlier one: a tag that stood before, a bench that stood before with another shop.
+// The first of several that clashes with an earlier one: a tag that stood before, a class that stood before with another above.
 // Mostly the slot that a number falls into tells it; otherwise the earlier ones are gone through.
 ghost use mathlib.Core.Path.{_≡_};
-ghost use Prim.Native.Nat.{_+_, _<_, _≤_};
+ghost use Prim.Native.Nat.{_+_, _-_, _<_, _≤_};
 ghost use lib.ListN.{length};
 ghost use Rattle.bits.specs.Below.{any};
+ghost use Rattle.bits.specs.Sizes.{mostLevels, classWords};
 ghost use Rattle.bits.specs.Slots.{FirstOfSlot};
-ghost use Rattle.sheet.specs.Cards.{equalAt, movedAt};
+ghost use Rattle.sheet.specs.Cards.{equalAt, movedAt, movedIn};
 ghost use Rattle.sheet.specs.Read.{firstClash};
 ghost use Rattle.sheet.specs.Slots.{SlotsMarked, Unmoved};
+use bits::columns::column;
+use bits::sizes::ClassWords;
 use bits::sizes::PersonWords;
 use bits::sizes::SLOTS;
 use bits::sizes::SlotPeople;
@@ -57,51 +60,62 @@ pub fn tag_clash(tags: &[u32], count: usize) -> usize
     count
 }
 
-// Whether the bench at `k` stands at an earlier place with another shop.
-fn bench_stood(benches: &PersonWords, shops: &PersonWords, k: usize) -> bool
-    requires { ⌜ (k < 64) × (length (now benches) ≡ 64) × (length (now shops) ≡ 64) ⌝ }
-    ensures { λ r. ⌜ r ≡ any k (λ j. movedAt (now (benches .entry)) (now (shops .entry)) j k) ⌝ }
+// Whether the class at `k` stands at an earlier place with another above.
+fn class_stood(below: &PersonWords, above: &PersonWords, k: usize) -> bool
+    requires { ⌜ (k < 64) × (length (now below) ≡ 64) × (length (now above) ≡ 64) ⌝ }
+    ensures { λ r. ⌜ r ≡ any k (λ j. movedAt (now (below .entry)) (now (above .entry)) j k) ⌝ }
 {
-    let bench = benches[k];
-    let shop = shops[k];
+    let class = below[k];
+    let whole = above[k];
     let mut found = false;
     let mut j = 0;
     while j < k {
-        found = found | ((benches[j] == bench) & (shops[j] != shop));
+        found = found | ((below[j] == class) & (above[j] != whole));
         j += 1;
     }
     found
 }
 
-// The same where no bench before `k` did so, with the first person of each slot.
-fn bench_again(
-    benches: &PersonWords,
-    shops: &PersonWords,
-    k: usize,
-    firsts: &mut SlotPeople,
-) -> bool
-    requires { ⌜ (k < 64) × (length (now benches) ≡ 64) × (length (now shops) ≡ 64) × Unmoved (now benches) (now shops) k × FirstOfSlot (now benches) k (now firsts) ⌝ }
-    ensures { λ r. ⌜ (r ≡ any k (λ j. movedAt (now (benches .entry)) (now (shops .entry)) j k)) × FirstOfSlot (now (benches .entry)) (k + 1) (now (firsts .exit)) ⌝ }
+// The same where no class before `k` did so, with the first person of each slot.
+fn class_again(below: &PersonWords, above: &PersonWords, k: usize, firsts: &mut SlotPeople) -> bool
+    requires { ⌜ (k < 64) × (length (now below) ≡ 64) × (length (now above) ≡ 64) × Unmoved (now below) (now above) k × FirstOfSlot (now below) k (now firsts) ⌝ }
+    ensures { λ r. ⌜ (r ≡ any k (λ j. movedAt (now (below .entry)) (now (above .entry)) j k)) × FirstOfSlot (now (below .entry)) (k + 1) (now (firsts .exit)) ⌝ }
 {
-    let j = first_there(benches, k, firsts);
-    if (benches[j] == benches[k]) & (shops[j] == shops[k]) {
+    let j = first_there(below, k, firsts);
+    if (below[j] == below[k]) & (above[j] == above[k]) {
         return false;
     }
-    bench_stood(benches, shops, k)
+    class_stood(below, above, k)
 }
 
-// The first of `count` people whose bench stood earlier with another shop; `count` where there is none.
-pub fn bench_clash(benches: &PersonWords, shops: &PersonWords, count: usize) -> usize
-    requires { ⌜ (count ≤ 64) × (length (now benches) ≡ 64) × (length (now shops) ≡ 64) ⌝ }
-    ensures { λ r. ⌜ r ≡ firstClash count (movedAt (now (benches .entry)) (now (shops .entry))) ⌝ }
+// The first of `count` people whose class stood earlier with another above; `count` where there is none.
+fn level_clash(below: &PersonWords, above: &PersonWords, count: usize) -> usize
+    requires { ⌜ (count ≤ 64) × (length (now below) ≡ 64) × (length (now above) ≡ 64) ⌝ }
+    ensures { λ r. ⌜ r ≡ firstClash count (movedAt (now (below .entry)) (now (above .entry))) ⌝ }
 {
     let mut firsts = [0u8; SLOTS];
     let mut k = 0;
     while k < count {
-        if bench_again(benches, shops, k, &mut firsts) {
+        if class_again(below, above, k, &mut firsts) {
             return k;
         }
         k += 1;
     }
     count
+}
+
+// The same over all class levels together, the person being the last of the levels: each level is gone through up to the first person found so far.
+pub fn class_clash(class: &ClassWords, levels: usize, count: usize) -> usize
+    requires { ⌜ (length (now class) ≡ classWords) × (levels ≤ mostLevels) × (count ≤ 64) ⌝ }
+    ensures { λ r. ⌜ r ≡ firstClash count (movedIn (now (class .entry)) (levels - 2)) ⌝ }
+{
+    let mut first = count;
+    let mut q = 2;
+    while q < levels {
+        let above = column(class, q - 1);
+        let below = column(class, q);
+        first = level_clash(&below, &above, first);
+        q += 1;
+    }
+    first
 }

@@ -3,6 +3,7 @@ ghost use mathlib.Core.Path.{_≡_};
 ghost use Rattle.sheet.specs.Answer.{sheetOf};
 ghost use Rattle.sheet.specs.Read.{lengthOk};
 use bits::sizes::CARD;
+use bits::sizes::ClassWords;
 use bits::sizes::MOST_BYTES;
 use bits::sizes::MOST_CHAIN;
 use bits::sizes::MOST_PEOPLE;
@@ -24,12 +25,13 @@ mod tables;
 
 // The job that a sheet describes: people, steps and rules along their chains, zeros after the last.
 pub struct SheetJob {
+    // The class levels, and the person as the last level.
+    pub levels: usize,
     pub person_tag: [u32; MOST_PEOPLE],
     pub step_tag: [u32; MOST_STEPS],
     // 1 for a step that is skipped.
     pub skipped: [u8; MOST_CHAIN],
-    pub shop: PersonWords,
-    pub bench: PersonWords,
+    pub class: ClassWords,
     pub permitted: PersonWords,
     pub rule_scope: [u16; MOST_RULES],
     pub rule_kind: RuleBytes,

@@ -4,19 +4,23 @@ ghost use mathlib.Core.Path.{_≡_};
 ghost use Prim.Native.Nat.{ℕ, _*_, _<_, _≤_};
 ghost use lib.ListN.{length, take};
 ghost use Rattle.bits.specs.Member.{member};
+ghost use Rattle.bits.specs.Sizes.{mostClassLevels};
+ghost use Rattle.card.specs.Fields.{classLevels};
 ghost use Rattle.sheet.specs.Answer.{answer, jobOf};
 ghost use Rattle.sheet.specs.Cards.{Listing, Marking, firstOfFour};
 ghost use Rattle.sheet.specs.Read.{fault, onTwo, onThree, checked, readPeople, peopleRead, stepsRead};
 use crate::Reading;
 use crate::Sheet;
 use crate::SheetJob;
-use crate::clash::bench_clash;
+use crate::clash::class_clash;
 use crate::clash::tag_clash;
 use crate::late::first_late;
 use crate::loose::first_loose;
 use crate::tables::bytes;
+use crate::tables::classes;
 use crate::tables::tags;
 use crate::tables::words;
+use bits::sizes::CLASS_WORDS;
 use bits::sizes::CardList;
 use bits::sizes::CardMarks;
 use bits::sizes::MOST_CARDS;
@@ -27,8 +31,9 @@ use bits::sizes::MOST_STEPS;
 use card::fields::PERSON_KIND;
 use card::fields::RULE_KIND;
 use card::fields::STEP_KIND;
+use card::fields::class_levels;
 use card::place;
-use card::refusal::BENCH_FAULT;
+use card::refusal::CLASS_FAULT;
 use card::refusal::COUNT_FAULT;
 use card::refusal::FIELD_FAULT;
 use card::refusal::LOOSE_FAULT;
@@ -44,11 +49,11 @@ pub fn refused(refusal: u32, card: usize) -> Sheet
     Sheet {
         reading: Reading::Refused { refusal, card },
         job: SheetJob {
+            levels: 0,
             person_tag: [0; MOST_PEOPLE],
             step_tag: [0; MOST_STEPS],
             skipped: [0; MOST_CHAIN],
-            shop: [0; MOST_PEOPLE],
-            bench: [0; MOST_PEOPLE],
+            class: [0; CLASS_WORDS],
             permitted: [0; MOST_PEOPLE],
             rule_scope: [0; MOST_RULES],
             rule_kind: [0; MOST_RULES],
@@ -58,7 +63,7 @@ pub fn refused(refusal: u32, card: usize) -> Sheet
     }
 }
 
-// The arrays of the job.
+// The levels and the arrays of the job.
 fn fill_job(
     s: &[u8],
     people: &CardList,
@@ -68,15 +73,16 @@ fn fill_job(
     rules: &CardList,
     r: usize,
 ) -> SheetJob
-    requires { ⌜ Listing (now s) (now people) p × Listing (now s) (now steps) n × (n ≤ 12) × Listing (now s) (now rules) r ⌝ }
+    requires { ⌜ Listing (now s) (now people) p × Listing (now s) (now steps) n × (n ≤ 12) × Listing (now s) (now rules) r × (16 ≤ length (now s)) × (classLevels (now s) ≤ mostClassLevels) ⌝ }
     ensures { λ j. ⌜ j ≡ jobOf (now (s .entry)) (take p (now (people .entry))) (take n (now (steps .entry))) (take r (now (rules .entry))) ⌝ }
 {
+    let above = class_levels(s);
+    let levels = above + 1;
     let mut person_tag = [0u32; MOST_PEOPLE];
     tags(s, people, p, &mut person_tag);
     let mut step_tag = [0u32; MOST_STEPS];
     tags(s, steps, n, &mut step_tag);
-    let shop = words(s, people, p, place::SHOP);
-    let bench = words(s, people, p, place::BENCH);
+    let class = classes(s, people, p, above);
     let permitted = words(s, people, p, place::PERMITTED);
     let rule_scope = words(s, rules, r, place::SCOPE);
     let rule_kind = bytes(s, rules, r, place::RULE);
@@ -84,11 +90,11 @@ fn fill_job(
     let rule_limit = bytes(s, rules, r, place::LIMIT);
     let skipped = bytes(s, steps, n, place::SKIPPED);
     SheetJob {
+        levels,
         person_tag,
         step_tag,
         skipped,
-        shop,
-        bench,
+        class,
         permitted,
         rule_scope,
         rule_kind,
@@ -97,10 +103,10 @@ fn fill_job(
     }
 }
 
-// The first that was found of a tag on two `people`, a tag on two `steps`, a bench in two shops and a `loose` card,
+// The first that was found of a tag on two `people`, a tag on two `steps`, one of the `classes` in two and a `loose` card,
 // counted from 1; 0 for none of them.
-fn first_found(people: bool, steps: bool, benches: bool, loose: bool) -> u32
-    ensures { λ r. ⌜ r ≡ firstOfFour people steps benches loose ⌝ }
+fn first_found(people: bool, steps: bool, classes: bool, loose: bool) -> u32
+    ensures { λ r. ⌜ r ≡ firstOfFour people steps classes loose ⌝ }
 {
     if people {
         return 1;
@@ -108,7 +114,7 @@ fn first_found(people: bool, steps: bool, benches: bool, loose: bool) -> u32
     if steps {
         return 2;
     }
-    if benches {
+    if classes {
         return 3;
     }
     if loose {
@@ -135,16 +141,15 @@ fn after_rules(
     let job = fill_job(s, people, p, steps, n, rules, r);
     let person_tag = job.person_tag;
     let step_tag = job.step_tag;
-    let bench = job.bench;
-    let shop = job.shop;
+    let class = job.class;
     let i = tag_clash(&person_tag, p);
     let j = tag_clash(&step_tag, n);
-    let k = bench_clash(&bench, &shop, p);
+    let k = class_clash(&class, job.levels, p);
     let c = first_loose(marks, cards);
     match first_found(i < p, j < n, k < p, c < cards) {
         1 => refused(TAG_FAULT, people[i] as usize),
         2 => refused(TAG_FAULT, steps[j] as usize),
-        3 => refused(BENCH_FAULT, people[k] as usize),
+        3 => refused(CLASS_FAULT, people[k] as usize),
         4 => refused(LOOSE_FAULT, c),
         _ => Sheet {
             reading: Reading::Readable {
@@ -205,7 +210,7 @@ fn after_people(s: &[u8], cards: usize, marks: &mut CardMarks, people: &CardList
 
 // The people chain, and all that follows it.
 pub fn read_people(s: &[u8], cards: usize) -> Sheet
-    requires { ⌜ (16 * cards ≤ length (now s)) × (0 < cards) × (cards ≤ 141) ⌝ }
+    requires { ⌜ (16 * cards ≤ length (now s)) × (0 < cards) × (cards ≤ 141) × (classLevels (now s) ≤ mostClassLevels) ⌝ }
     ensures { λ a. ⌜ a ≡ answer (now (s .entry)) (readPeople (now (s .entry)) cards) ⌝ }
 {
     let mut marks = [false; MOST_CARDS];

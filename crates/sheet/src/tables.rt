@@ -3,11 +3,17 @@ ghost use mathlib.Core.Path.{_≡_};
 ghost use Prim.Native.Nat.{_+_, _<_, _≤_};
 ghost use lib.ListN.{length, take, replicate};
 ghost use Rattle.card.specs.Layout.{cardByte, cardWord, cardLong};
-ghost use Rattle.sheet.specs.Answer.{table};
+ghost use Rattle.bits.specs.Sizes.{mostClassLevels};
+ghost use Rattle.card.specs.Fields.{classLevels};
+ghost use Rattle.sheet.specs.Answer.{table, classTable};
 ghost use Rattle.sheet.specs.Cards.{Listing};
+use bits::sizes::CLASS_WORDS;
 use bits::sizes::CardList;
+use bits::sizes::ClassWords;
 use bits::sizes::MOST_CHAIN;
+use bits::sizes::MOST_PEOPLE;
 use card::byte;
+use card::fields::class_place;
 use card::long;
 use card::place::TAG;
 use card::word;
@@ -36,6 +42,21 @@ pub fn words(s: &[u8], list: &CardList, count: usize, at: usize) -> [u16; MOST_C
     while k < count {
         out[k] = word(s, list[k] as usize, at) as u16;
         k += 1;
+    }
+    out
+}
+
+// The classes on the first `count` cards of a list, level by level.
+pub fn classes(s: &[u8], list: &CardList, count: usize, levels: usize) -> ClassWords
+    requires { ⌜ Listing (now s) (now list) count × (levels ≡ classLevels (now s)) × (levels ≤ mostClassLevels) ⌝ }
+    ensures { λ r. ⌜ r ≡ classTable (now (s .entry)) (take count (now (list .entry))) ⌝ }
+{
+    let mut out = [0u16; CLASS_WORDS];
+    for q in 0..levels {
+        let at = class_place(q + 1);
+        for k in 0..count {
+            out[q * MOST_PEOPLE + k] = word(s, list[k] as usize, at) as u16;
+        }
     }
     out
 }

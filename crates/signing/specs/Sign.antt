@@ -9,6 +9,7 @@ use Rattle.card.specs.Refusals.{unknownFault, signedFault, ungrantedFault}
 use Rattle.remaining.specs.Remaining.{stepsLeft, jobLeft}
 use Rattle.sheet.specs.Read.{Read, job, fault, readSheet}
 use Rattle.sheet.specs.declared.SheetJob as sheet
+use Rattle.workflow.specs.Problem.{Job}
 use Rattle.workflow.specs.First.{Found, found, nothing, firstPlan}
 use Rattle.instance.specs.Instance.{instanceOf, mayOf}
 use Rattle.answer.specs.Number.{refusalNumber}
@@ -49,13 +50,17 @@ decided t p j nothing = refusedSigning ungrantedFault j
 abbrev pub unlessRefused : ℕ → JobState → Answered → Answered
 unlessRefused f j next = cond (eqb f 0) next (refusedSigning f j)
 
--- of a job with these counts: the step and the person at the places of the tags
-unfoldable pub signOf : ℕ → ℕ → ℕ → sheet.SheetJob → JobState → ℕ → ℕ → Answered
-signOf people steps rules posed j step person =
+-- of a job that poses a problem over so many people and steps: the step and the person at the places of the tags
+abbrev pub signFor : Job → ℕ → ℕ → sheet.SheetJob → JobState → ℕ → ℕ → Answered
+signFor problem people steps posed j step person =
     let t : ℕ = placeOf steps (posed .«step_tag») step in
     let p : ℕ = placeOf people (posed .«person_tag») person in
     unlessRefused (firstRefusal (eqb t steps || eqb p people) (not (isOpen (j .signer) t))) j
-    (decided t p j (firstPlan (instanceOf people steps rules posed) (bound (mayOf posed) (set (j .signer) t (suc p)))))
+    (decided t p j (firstPlan problem (bound (mayOf posed) (set (j .signer) t (suc p)))))
+
+-- of a job with these counts
+unfoldable pub signOf : ℕ → ℕ → ℕ → sheet.SheetJob → JobState → ℕ → ℕ → Answered
+signOf people steps rules posed j step person = signFor (instanceOf people steps rules posed) people steps posed j step person
 
 -- of what the job holds: where that is no readable sheet every step is unknown
 unfoldable pub signRead : JobState → ℕ → ℕ → Read → Answered

@@ -39,9 +39,8 @@ use Rattle.levels.specs.declared.Tables.{Tables}
 use Rattle.levels.specs.Trims.{Trims}
 use Rattle.instance.specs.Instance.{instanceOf}
 use Rattle.instance.proofs.Laws.{instance-nested, instance-rules}
-use Rattle.tables.specs.Arrays.{MasksOf, wordOf, ClassesOf}
+use Rattle.tables.specs.Arrays.{MasksOf, ClassesOf}
 use Rattle.tables.specs.Posing.{Packable, Packs, unbroken, breakable, PackedRules, Poses, Permits}
-use Rattle.tables.proofs.Numbers.{own-number}
 
 pub packable : (people steps rules : ℕ) (j : sheet.SheetJob) → ReadableJob people steps rules j → Packable steps rules (j .«rule_level») (j .«rule_limit») (j .«rule_scope»)
 packable people steps rules j r =
@@ -50,17 +49,17 @@ packable people steps rules j r =
       few-rules = r .rules-most;
       levels = r .sized .level;
       limits = r .sized .limit;
-      small-level = λ i l. r .rule i l .level-to;
+      small-level = λ i l. omega (arith, r .rule i l .level-to, r .levels-most);
       scopes = r .sized .scope;
       small-limit = λ i l. r .rule i l .limit;
       small-scope = λ i l. r .rule i l .scope;
     }
 
 module _ (people steps rules : ℕ) (j : sheet.SheetJob) (r : ReadableJob people steps rules j)
-    (class : List ℕ) (c : ClassesOf (j .shop) (j .bench) people people class)
+    (class : List ℕ) (c : ClassesOf (j .levels) (j .class) people class)
     (rule : List ℕ) (number : ℕ) (w : PackedRules steps rules (j .«rule_kind») (j .«rule_level») (j .«rule_limit») (j .«rule_scope») rule number) where
   abbrev size : Size
-  size = record { steps = steps; people = people; levels = 3; rules = number }
+  size = record { steps = steps; people = people; levels = j .levels; rules = number }
 
   abbrev asked : Job
   asked = instanceOf people steps rules j
@@ -68,20 +67,16 @@ module _ (people steps rules : ℕ) (j : sheet.SheetJob) (r : ReadableJob people
   abbrev posed : Job
   posed = jobIn size class rule
 
-  -- the table has two people in one class exactly where the sheet has
-  class-back : (q p p′ : ℕ) → 1 ≤ q → q ≤ 3 → p < people → p′ < people → asked .class q p ≡ asked .class q p′ → classIn class q p ≡ classIn class q p′
-  class-back zero p p′ a b l m e = absurd (omega arith)
-  class-back (suc zero) p p′ a b l m e = c .shops p l ∙ number-same people (wordOf (j .shop)) p p′ e ∙ sym (c .shops p′ m)
-  class-back (suc (suc zero)) p p′ a b l m e = c .benches p l ∙ number-same people (wordOf (j .bench)) p p′ e ∙ sym (c .benches p′ m)
-  class-back (suc (suc (suc zero))) p p′ a b l m e = ap (classIn class 3) e
-  class-back (suc (suc (suc (suc q)))) p p′ a b l m e = absurd (omega arith)
+  -- each class has its number
+  numbered : (q p : ℕ) → 1 ≤ q → q ≤ j .levels → p < people → classIn class q p ≡ numberOf people (asked .class q) p
+  numbered = c .numbers
 
-  class-forth : (q p p′ : ℕ) → 1 ≤ q → q ≤ 3 → p < people → p′ < people → classIn class q p ≡ classIn class q p′ → asked .class q p ≡ asked .class q p′
-  class-forth zero p p′ a b l m e = absurd (omega arith)
-  class-forth (suc zero) p p′ a b l m e = number-tells people (wordOf (j .shop)) p p′ l m (sym (c .shops p l) ∙ e ∙ c .shops p′ m)
-  class-forth (suc (suc zero)) p p′ a b l m e = number-tells people (wordOf (j .bench)) p p′ l m (sym (c .benches p l) ∙ e ∙ c .benches p′ m)
-  class-forth (suc (suc (suc zero))) p p′ a b l m e = sym (c .persons p l) ∙ e ∙ c .persons p′ m
-  class-forth (suc (suc (suc (suc q)))) p p′ a b l m e = absurd (omega arith)
+  -- the table has two people in one class exactly where the sheet has
+  class-back : (q p p′ : ℕ) → 1 ≤ q → q ≤ j .levels → p < people → p′ < people → asked .class q p ≡ asked .class q p′ → classIn class q p ≡ classIn class q p′
+  class-back q p p′ a b l m e = numbered q p a b l ∙ number-same people (asked .class q) p p′ e ∙ sym (numbered q p′ a b m)
+
+  class-forth : (q p p′ : ℕ) → 1 ≤ q → q ≤ j .levels → p < people → p′ < people → classIn class q p ≡ classIn class q p′ → asked .class q p ≡ asked .class q p′
+  class-forth q p p′ a b l m e = number-tells people (asked .class q) p p′ l m (sym (numbered q p a b l) ∙ e ∙ numbered q p′ a b m)
 
   refining : Refining posed
   refining =
@@ -91,16 +86,8 @@ module _ (people steps rules : ℕ) (j : sheet.SheetJob) (r : ReadableJob people
             (instance-nested people steps rules j r .finer q p p′ a b l m (class-forth (suc q) p p′ (omega arith) (omega arith) l m e));
       }
 
-  -- each class has its number
-  numbered : (q p : ℕ) → 1 ≤ q → q ≤ 3 → p < people → classIn class q p ≡ numberOf people (asked .class q) p
-  numbered zero p a b l = absurd (omega arith)
-  numbered (suc zero) p a b l = c .shops p l
-  numbered (suc (suc zero)) p a b l = c .benches p l
-  numbered (suc (suc (suc zero))) p a b l = c .persons p l ∙ sym (own-number people p l)
-  numbered (suc (suc (suc (suc q)))) p a b l = absurd (omega arith)
-
   -- which is that of the table's class, as the same people share it
-  numbers : (q p : ℕ) → 1 ≤ q → q ≤ 3 → p < people → classIn class q p ≡ numberOf people (classIn class q) p
+  numbers : (q p : ℕ) → 1 ≤ q → q ≤ j .levels → p < people → classIn class q p ≡ numberOf people (classIn class q) p
   numbers q p a b l =
       numbered q p a b l
       ∙ number-moves people (asked .class q) (classIn class q) (λ x y m n e. class-back q x y a b m n e) (λ x y m n e. class-forth q x y a b m n e) p l
@@ -115,7 +102,7 @@ module _ (people steps rules : ℕ) (j : sheet.SheetJob) (r : ReadableJob people
   from-below : (k : ℕ) → k < number → from k < rules
   from-below k l = kept-below left-out rules k (omega (arith, w .all))
 
-  ok : (k : ℕ) → k < number → RuleOk steps 3 (ruleIn rule k)
+  ok : (k : ℕ) → k < number → RuleOk steps (j .levels) (ruleIn rule k)
   ok k l =
       let b = instance-rules people steps rules j r (from k) (from-below k l) in
       let e = w .each k l in
@@ -134,7 +121,7 @@ module _ (people steps rules : ℕ) (j : sheet.SheetJob) (r : ReadableJob people
       record {
         ruled = record {
           few-steps = r .steps-most;
-          few-levels = omega arith;
+          few-levels = r .levels-most;
           few-rules = omega (arith, w .all, kept-few left-out rules, r .rules-most);
           sized = w .sized;
           scopes = λ k l. subst (λ (m : ℕ). m < 2 ^ steps) (sym (w .each k l .its-scope)) (r .rule (from k) (from-below k l) .scope);
@@ -148,7 +135,7 @@ module _ (people steps rules : ℕ) (j : sheet.SheetJob) (r : ReadableJob people
 
   -- the job with the rules that can be broken alone
   abbrev shorter : Job
-  shorter = record { steps = steps; people = people; levels = 3; class = asked .class; rules = number; rule = λ k. asked .rule (from k) }
+  shorter = record { steps = steps; people = people; levels = j .levels; class = asked .class; rules = number; rule = λ k. asked .rule (from k) }
 
   -- the others are met by every plan
   always-met : (i : ℕ) → left-out i ≡ true → (π : Plan) → Met asked (asked .rule i) π

@@ -6,6 +6,7 @@ use Prim.Native.Nat.{ℕ, _^_, _≤_, _<_, min}
 use lib.Dec.{leb}
 use lib.ListN.{length, getD}
 use Rattle.bits.specs.Below.{count}
+use Rattle.bits.specs.Sizes.{mostLevels}
 use Rattle.bits.specs.Word.{hasBit}
 use Rattle.remaining.specs.Kept.{keptBelow}
 use Rattle.sheet.specs.declared.SheetJob as sheet
@@ -26,7 +27,7 @@ pub record Packable (steps rules : ℕ) (level limit scope : List ℕ) : Type 0 
   pub levels : length level ≡ 64
   pub limits : length limit ≡ 64
   pub scopes : length scope ≡ 64
-  pub small-level : (i : ℕ) → i < rules → getD level i 0 ≤ 3
+  pub small-level : (i : ℕ) → i < rules → getD level i 0 ≤ mostLevels
   pub small-limit : (i : ℕ) → i < rules → getD limit i 0 ≤ 12
   pub small-scope : (i : ℕ) → i < rules → getD scope i 0 < 2 ^ steps
 
@@ -58,11 +59,11 @@ pub record PackedRules (steps n : ℕ) (kind level limit scope rule : List ℕ) 
       Packs steps (getD kind i 0) (getD level i 0) (getD limit i 0) (getD scope i 0) (getD rule k 0)
 
 -- level k of the tables has the classes of one level of the sheet, "numbered from 0 by first use in crew order, and two people get one
--- number exactly when they share the shop, or the bench"; the numbers are small
+-- number exactly when they share the shop, or the bench", or whatever class the level has; the numbers are small
 pub record LevelNumbers (people : ℕ) (j : sheet.SheetJob) (t : Tables) (k : ℕ) : Type 0 where
   pub level : ℕ
   pub from : 1 ≤ level
-  pub to : level ≤ 3
+  pub to : level ≤ j .levels
   pub numbering : Numbering people (classNumber j level) (classIn (t .class) k)
   pub small : (p : ℕ) → p < people → classIn (t .class) k p < 64
 

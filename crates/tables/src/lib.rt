@@ -5,18 +5,21 @@ ghost use mathlib.Core.Path.{_≡_};
 ghost use Prim.Native.Nat.{ℕ, _+_, _^_, _<_, _≤_, min};
 ghost use lib.Dec.{eqb};
 ghost use lib.ListN.{length, getD};
+ghost use Rattle.bits.specs.Sizes.{mostLevels, classWords, classEntries};
 ghost use Rattle.bits.specs.Slots.{FirstOfSlot};
 ghost use Rattle.workflow.specs.Problem.{leastOf, mostOf};
 ghost use Rattle.workflow.specs.Numbered.{kindIn};
 ghost use Rattle.pattern.specs.Number.{firstUse, classesBefore};
 ghost use Rattle.sheet.specs.Readable.{ReadableJob};
 ghost use Rattle.tables.specs.Posing.{Packable, Packs, PackedRules, Poses, unbroken};
-ghost use Rattle.tables.specs.Arrays.{MasksOf, wordOf, NumbersAt, Entered, ClassesOf};
+ghost use Rattle.tables.specs.Arrays.{MasksOf, wordOf, NumbersAt, Entered, LevelNumbered, ClassesOf};
 ghost use Rattle.tables.specs.Rows.{Pushed};
+use bits::columns::column;
 use bits::sizes::CLASS_ENTRIES;
+use bits::sizes::ClassWords;
 use bits::sizes::Classes;
 use bits::sizes::Domains;
-use bits::sizes::MOST_LEVELS;
+use bits::sizes::MOST_PEOPLE;
 use bits::sizes::MOST_RULES;
 use bits::sizes::MOST_STEPS;
 use bits::sizes::PersonWords;
@@ -94,7 +97,7 @@ fn enter_class(
     class: &mut Classes,
 ) -> bool
     requires { ⌜ (length (now words) ≡ 64) × (p < people) × (people ≤ 64) × FirstOfSlot (now words) p (now firsts) ⌝ }
-    requires { ⌜ (top ≤ 128) × (met ≡ classesBefore (wordOf (now words)) p) × NumbersAt (now words) people top p (now class) ⌝ }
+    requires { ⌜ (top + 64 ≤ classEntries) × (met ≡ classesBefore (wordOf (now words)) p) × NumbersAt (now words) people top p (now class) ⌝ }
     ensures { λ r. ⌜ (r ≡ eqb (firstUse people (wordOf (now (words .entry))) p) p)
         × Entered (now (words .entry)) people top p (now (class .entry)) (now (class .exit))
         × FirstOfSlot (now (words .entry)) (p + 1) (now (firsts .exit)) ⌝ }
@@ -108,24 +111,33 @@ fn enter_class(
     false
 }
 
-// The classes of each level: shops, benches, people. Each has a number, from 0 by first use in crew order.
-fn classes<'a>(shop: &'a PersonWords, bench: &'a PersonWords, people: usize) -> Classes
-    requires { ⌜ (length (now shop) ≡ 64) × (length (now bench) ≡ 64) × (people ≤ 64) ⌝ }
-    ensures { λ r. ⌜ ClassesOf (now (shop .entry)) (now (bench .entry)) people people r ⌝ }
+// Enters the numbers of the classes of a level, from 0 by first use in crew order. The entries of the level begin at `top`.
+fn number_level(words: &PersonWords, people: usize, top: usize, class: &mut Classes)
+    requires { ⌜ (length (now words) ≡ 64) × (people ≤ 64) × (top + 64 ≤ classEntries) × (length (now class) ≡ classEntries) ⌝ }
+    ensures { λ _. ⌜ LevelNumbered (now (words .entry)) people top people (now (class .entry)) (now (class .exit)) ⌝ }
+{
+    let mut slots = [0u8; SLOTS];
+    let mut met = 0;
+    for p in 0..people {
+        if enter_class(words, people, p, top, met, &mut slots, class) {
+            met += 1;
+        }
+    }
+}
+
+// The classes of each level, by their numbers. At the last level each person is a class.
+fn classes(words: &ClassWords, levels: usize, people: usize) -> Classes
+    requires { ⌜ (length (now words) ≡ classWords) × (1 ≤ levels) × (levels ≤ mostLevels) × (people ≤ 64) ⌝ }
+    ensures { λ r. ⌜ ClassesOf levels (now (words .entry)) people r ⌝ }
 {
     let mut class = [0u8; CLASS_ENTRIES];
-    let mut shop_slots = [0u8; SLOTS];
-    let mut bench_slots = [0u8; SLOTS];
-    let mut shops = 0;
-    let mut benches = 0;
+    let last = levels - 1;
+    for q in 0..last {
+        let level = column(words, q + 1);
+        number_level(&level, people, q * MOST_PEOPLE, &mut class);
+    }
     for p in 0..people {
-        if enter_class(shop, people, p, 0, shops, &mut shop_slots, &mut class) {
-            shops += 1;
-        }
-        if enter_class(bench, people, p, 64, benches, &mut bench_slots, &mut class) {
-            benches += 1;
-        }
-        class[128 + p] = p as u8;
+        class[last * MOST_PEOPLE + p] = p as u8;
     }
     class
 }
@@ -166,7 +178,7 @@ fn smaller(a: usize, b: usize) -> usize
 
 // A rule as a number. Where skipped steps are left out, its bounds are at most the steps left in its scope, and those of the job.
 fn packed_rule(kind: u8, level: u8, limit: u8, scope: u16, steps: usize) -> u32
-    requires { ⌜ (level ≤ 3) × (limit ≤ 12) × (steps ≤ 12) × (scope < 2 ^ steps) ⌝ }
+    requires { ⌜ (level ≤ mostLevels) × (limit ≤ 12) × (steps ≤ 12) × (scope < 2 ^ steps) ⌝ }
     ensures { λ r. ⌜ Packs steps kind level limit scope r ⌝ }
 {
     let low = smaller(least(kind, limit as usize), small::size(scope));
@@ -220,7 +232,7 @@ pub fn pose(job: SheetJob, people: usize, steps: usize, rules: usize) -> Tables
     requires { ⌜ ReadableJob people steps rules job ⌝ }
     ensures { λ r. ⌜ Poses people steps rules job r ⌝ }
 {
-    let class = classes(&job.shop, &job.bench, people);
+    let class = classes(&job.class, job.levels, people);
     let asked = packed(
         &job.rule_kind,
         &job.rule_level,
@@ -233,7 +245,7 @@ pub fn pose(job: SheetJob, people: usize, steps: usize, rules: usize) -> Tables
     let size = Size {
         steps: steps,
         people: people,
-        levels: MOST_LEVELS,
+        levels: job.levels,
         rules: asked.count,
     };
     keep(size, &class, &rule)

@@ -2,8 +2,11 @@
 
 use model::card::CARD;
 use model::garble::{sample, Sample};
+use model::job::Form;
 use model::random::Random;
 use model::reader::{read, text};
+use model::refusal::{BAD_LENGTH, LOOSE_CARD};
+use sheet_tests::forms::{can_refuse, on_sheet, wanted};
 use sheet_tests::records;
 use sheet_tests::tally::Tally;
 use std::io::{BufRead, BufReader, Write};
@@ -50,12 +53,23 @@ fn fault(name: usize, sample: &Sample, line: Option<&String>) -> Option<String> 
     }
 }
 
-/// By how many steps a readable sheet skips. A run in which one of these was never met has failed.
+/// By how many steps a readable sheet skips. A run in which one of these, or a refusal, was never met on sheets of a form has
+/// failed.
 const READABLE: [&str; 3] = ["readable", "readable, some steps skipped", "readable, all steps skipped"];
+
+fn refusal(number: u32) -> String {
+    format!("refusal {number:2}")
+}
+
+/// What has to be met on sheets of a form.
+fn outcomes(form: Form) -> Vec<String> {
+    let refusals = (BAD_LENGTH..=LOOSE_CARD).filter(|&number| can_refuse(form, number)).map(refusal);
+    READABLE.map(String::from).into_iter().chain(refusals).collect()
+}
 
 fn outcome(sample: &Sample) -> String {
     let job = match read(&sample.sheet) {
-        Err(refusal) => return format!("refusal {:2}", refusal.number),
+        Err(refused) => return refusal(refused.number),
         Ok(job) => job,
     };
     let left = job.remaining().count();
@@ -72,7 +86,7 @@ fn run(count: usize, seed: u64, program: &str) -> std::io::Result<Tally> {
         let samples: Vec<Sample> = (0..size).map(|_| sample(&mut random)).collect();
         let lines = answers(program, done, &samples, random.below(3 + 9 + CARD))?;
         for (k, sample) in samples.iter().enumerate() {
-            tally.count(outcome(sample));
+            tally.count(on_sheet(&sample.sheet, &outcome(sample)));
             let faults: Vec<String> = fault(done + k, sample, lines.get(k)).into_iter().collect();
             tally.enter((done + k) as u64, &sample.sheet, &faults);
         }
@@ -81,7 +95,7 @@ fn run(count: usize, seed: u64, program: &str) -> std::io::Result<Tally> {
         }
         done += size;
     }
-    tally.want(READABLE.map(String::from));
+    tally.want(wanted(outcomes));
     Ok(tally)
 }
 

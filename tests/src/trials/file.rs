@@ -34,7 +34,7 @@ fn header() -> Vec<Trial> {
         .collect();
     trials.extend([
         trial("4, version 0", w().byte(0, 1, 0), refused(4, 0)),
-        trial("4, version 2", w().byte(0, 1, 2), refused(4, 0)),
+        trial("4, version 2 with no class levels", w().byte(0, 1, 2), refused(4, 0)),
         trial("4, header's next is 1", w().next(0, 1), refused(4, 0)),
         trial("4, header's next is 256", w().next(0, 256), refused(4, 0)),
         trial("4, card number 0", w().number(0), refused(4, 0)),

@@ -4,13 +4,15 @@ mod chains;
 mod contents;
 mod damage;
 mod file;
+mod levels;
 pub mod papers;
 mod points;
 mod skipped;
 mod together;
 
+use crate::by_hand::Sheet;
 use crate::records;
-use model::builder::Draft;
+use model::builder::{lay, Draft};
 use model::reader::{read, text};
 
 pub struct Trial {
@@ -31,6 +33,12 @@ fn refused(number: u32, card: usize) -> String {
     format!("REFUSED {number} CARD {card}")
 }
 
+/// A sheet that is planned as well.
+fn planned(sheet: &Sheet) -> Trial {
+    let job = &sheet.job;
+    trial(&sheet.name, lay(job), reads(job.people.len(), sheet.remaining, job.rules.len()))
+}
+
 /// Every trial, in the order of the file.
 pub fn all() -> Vec<Trial> {
     let mut trials = papers::trials();
@@ -41,6 +49,7 @@ pub fn all() -> Vec<Trial> {
     trials.extend(damage::trials());
     trials.extend(together::trials());
     trials.extend(skipped::trials());
+    trials.extend(levels::trials());
     trials
 }
 

@@ -1,6 +1,6 @@
 //! Skipped steps: byte 1 of a step card, and what is checked of the cards whether their steps are skipped or not.
 
-use super::{reads, refused, trial, Trial};
+use super::{planned, reads, refused, trial, Trial};
 use crate::skipped;
 use model::builder::{lay, one_by_one, plain, plain_job, sheet_w, skipping, spread_w, Draft};
 use model::job::MOST_STEPS;
@@ -29,12 +29,6 @@ fn marks() -> Vec<Trial> {
         trial("skipped, mixed cards, last step's byte 1 is 2", spread().byte(5, 1, 2), refused(8, 5)),
     ]);
     trials
-}
-
-/// The sheets that are planned as well.
-fn planned(sheet: &skipped::Sheet) -> Trial {
-    let job = &sheet.job;
-    trial(&sheet.name, lay(job), reads(job.people.len(), sheet.remaining, job.rules.len()))
 }
 
 fn fields() -> Vec<Trial> {

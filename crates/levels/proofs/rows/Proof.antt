@@ -3,13 +3,15 @@ use mathlib.Core.Path.{_≡_, refl, sym, subst}
 use Prim.Native.Nat.{ℕ, _+_, _*_, _/_, _≤_, _-_}
 use native.Mathlib.Omega.{arith}
 use lib.ListN.{getD}
+use Rattle.bits.specs.Sizes.{mostLevels, classEntries}
 use Rattle.levels.specs.Trims.{OldLevels}
-use Rattle.levels.proofs.Copying.{Copied, copied-more, rowEntry, row-from, row-to, copied-rows, rows-all}
+use Rattle.bits.proofs.Copied.{Copied, copied-more}
+use Rattle.levels.proofs.Copying.{rowEntry, row-from, row-to, copied-rows, rows-all}
 use Rattle.levels.proofs.rows.Statement.{statement}
 use Rattle.levels.proofs.rows.Tie as tie
 
 abbrev Inv-loop : tie.InvT-loop
-Inv-loop levels count old class kept₀ x₀ x-end kept x = (x-end ≡ count * 64) × (x ≤ count * 64) × Copied 192 x (rowEntry old class) kept
+Inv-loop levels count old class kept₀ x₀ x-end kept x = (x-end ≡ count * 64) × (x ≤ count * 64) × Copied classEntries x (rowEntry old class) kept
 
 abbrev μ-loop : tie.MeasureT-loop
 μ-loop levels count old class kept₀ x₀ x-end kept x = count * 64 - x
@@ -31,7 +33,7 @@ abbrev start : tie.In-loop Inv-loop μ-loop → tie.Start Inv-loop μ-loop
 start c = c .before .before .before
 
 -- the level of a turn
-below : (c : tie.In-loop Inv-loop μ-loop) → getD (start c .args .old .now) (c .before .loop .x / 64 + 1) 0 ≤ 3
+below : (c : tie.In-loop Inv-loop μ-loop) → getD (start c .args .old .now) (c .before .loop .x / 64 + 1) 0 ≤ mostLevels
 below c = omega (arith, row-to (start c .pre .1) (c .before .loop .x) (c .loop-test .taken), start c .pre .0)
 
 add-k : tie.Need-add-k Inv-loop μ-loop
@@ -69,7 +71,7 @@ loop-again c =
     let t = c .before .before in
     let a = start t .args in
     let l = t .before .loop in
-    (l .inv .0, omega arith, copied-more 192 (l .x) (rowEntry (a .old .now) (a .class .now)) (l .kept) (omega (arith, start t .pre .1 .few)) (l .inv .2))
+    (l .inv .0, omega arith, copied-more classEntries (l .x) (rowEntry (a .old .now) (a .class .now)) (l .kept) (omega (arith, start t .pre .1 .few)) (l .inv .2))
 
 returns-2 : tie.Need-returns-2 Inv-loop μ-loop
 returns-2 c =

@@ -7,7 +7,7 @@ use Rattle.remaining.proofs.job_over.Tie as tie
 
 -- from the answer back to the tags of the steps, and from there to the start
 abbrev tagged : tie.After-t17 → tie.After-tags-left
-tagged c = c .before .before .before .before .before .before .before .before .before .before .before
+tagged c = c .before .before .before .before .before .before .before .before .before .before
 
 abbrev start : tie.After-tags-left → tie.Start
 start c = c .before .before .before .before
@@ -27,11 +27,11 @@ returns c =
     λ i.
     let j = start (tagged c) .args .t1 in
     record {
+      levels = j .levels;
       «person_tag» = j .«person_tag»;
       «step_tag» = tagged c .tags-left .ensures i;
       skipped = zeros 64;
-      shop = j .shop;
-      bench = j .bench;
+      class = j .class;
       permitted = c .before .before .before .before .before .before .sets-left .ensures i;
       «rule_scope» = c .before .before .before .sets-left2 .ensures i;
       «rule_kind» = j .«rule_kind»;

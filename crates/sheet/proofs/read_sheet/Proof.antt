@@ -1,7 +1,9 @@
 -- Each return is one case of `readSheet`. Assumes nothing.
 use denote.Ref.{now}
+use mathlib.Core.Path.{sym, _∙_}
 use borrow.Author.Tests.{not-true, not-false}
 use Rattle.sheet.proofs.Order.{bad-length, long-enough, bad-header, read-on}
+use Rattle.sheet.proofs.InOrder.{header-levels}
 use borrow.Author.Needs.{needs}
 use Rattle.sheet.proofs.read_sheet.Statement.{statement}
 use Rattle.sheet.proofs.read_sheet.Tie as tie
@@ -30,7 +32,9 @@ returns-2 c =
 read-people-requires : tie.Need-read-people-requires
 read-people-requires c κs =
     let e = c .before .before in
-    long-enough (now (e .before .before .before .args .sheet)) (not-false _ (e .if1 .left)) (e .before .length-ok .ensures) .1
+    let s = now (e .before .before .before .args .sheet) in
+    let l = long-enough s (not-false _ (e .if1 .left)) (e .before .length-ok .ensures) .1 in
+    (l .0, l .1, l .2, header-levels s _ (sym (c .before .header-ok .ensures) ∙ not-false _ (c .if2 .left)) .1)
 
 returns-3 : tie.Need-returns-3
 returns-3 c =

@@ -1,14 +1,15 @@
 -- The arrays of the job are given to `keep`, which leaves out the levels that no rule names. Assumes nothing.
+use native.Mathlib.Omega.{arith}
 use Rattle.tables.proofs.Same.{packable, whole-classed, poses}
 use Rattle.tables.proofs.pose.Statement.{statement}
 use Rattle.tables.proofs.pose.Tie as tie
 
 classes-requires : tie.Need-classes-requires
-classes-requires c κs = let r = c .before .before .before .pre in (r .sized .shop, r .sized .bench, r .people-most)
+classes-requires c κs = let r = c .before .before .pre in (r .sized .class, omega (arith, r .levels-some), r .levels-most, r .people-most)
 
 -- where the call begins
 abbrev start : tie.After-classes → tie.Start
-start c = c .before .before .before .before
+start c = c .before .before .before
 
 packed-requires : tie.Need-packed-requires
 packed-requires c κs = let r = start (c .before .before .before .before .before) .pre in (packable _ _ _ _ r, r .sized .kind)

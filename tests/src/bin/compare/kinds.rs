@@ -1,11 +1,12 @@
 //! How a call has ended. A run in which one of these was never met has failed.
 
 use model::answers::{Answer, Call, MOST_CAP, STEP_BYTES};
-use model::job::{Job, MOST_PEOPLE, MOST_RULES, MOST_STEPS};
+use model::job::{Form, Job, MOST_PEOPLE, MOST_RULES, MOST_STEPS};
 use model::plans::plans;
 use model::reader::read;
 use model::refusal::{Refusal, BAD_LENGTH, CAP_TOO_HIGH, NO_PLAN, SHORT_ANSWER};
 use model::trial::SHOWN;
+use sheet_tests::forms::{can_refuse, on_sheet, wanted};
 use sheet_tests::skipped::skips_some;
 
 const CREWS: [Call; 2] = [Call::Crew, Call::CrewByTrial];
@@ -103,13 +104,18 @@ fn of_call(call: Call, ends: Vec<String>) -> impl Iterator<Item = String> {
 
 /// The kinds of an answer that is the model's.
 pub fn of(call: Call, sheet: &[u8], answer: &Answer) -> Vec<String> {
-    of_call(call, ends(call, sheet, answer)).collect()
+    of_call(call, ends(call, sheet, answer)).map(|kind| on_sheet(sheet, &kind)).collect()
 }
 
 /// Every kind: each refusal of each call, the short area among them, every spare count, crews by their place and by the size
-/// of their job, and what skipped steps change.
+/// of their job, and what skipped steps change; all of it on sheets of every form.
 pub fn all() -> Vec<String> {
-    let refusals = |more: &[u32]| [more, &Vec::from_iter(BAD_LENGTH..=NO_PLAN)].concat().into_iter().map(refusal);
+    wanted(in_one_form)
+}
+
+fn in_one_form(form: Form) -> Vec<String> {
+    let of_reader = Vec::from_iter((BAD_LENGTH..=NO_PLAN).filter(|&number| can_refuse(form, number)));
+    let refusals = |more: &[u32]| [more, &of_reader].concat().into_iter().map(refusal);
     let tried = [FIRST.to_string(), LATER.to_string(), LAST.to_string(), refusal(NO_PLAN)];
     let mut crews: Vec<String> = refusals(&[SHORT_ANSWER]).collect();
     crews.extend([EMPTY, ONLY, FIRST, LATER, LAST, SHORT_FOR_ALL].map(String::from));
@@ -125,7 +131,9 @@ pub fn all() -> Vec<String> {
 mod tests {
     use super::*;
     use model::answers::answer;
-    use model::builder::{last_alone, lay, one_by_one, plain, plain_job, sheet_w, skipped_w, skipping, w_and, Draft};
+    use model::builder::{
+        last_alone, lay, one_by_one, plain, plain_job, sheet_w, sheet_w_in, skipped_w, skipping, w_and, Draft,
+    };
     use std::collections::BTreeSet;
 
     fn kinds(call: Call, sheet: &Draft, room: usize) -> Vec<String> {
@@ -178,12 +186,24 @@ mod tests {
     }
 
     #[test]
+    fn ends_are_told_apart_by_the_form_of_the_sheet() {
+        for (class_levels, form) in [(1, "1 class level"), (2, "2 class levels"), (3, "3 class levels")] {
+            let w = sheet_w_in(Form::Second { class_levels });
+            assert_eq!(kinds(Call::Crew, &w, 24), [format!("version 2, {form}: crew, a later plan")]);
+            assert_eq!(kinds(Call::Crew, &w.clone().cut(24), 24), [format!("version 2, {form}: crew, refusal  3")]);
+            assert_eq!(kinds(Call::Spare { cap: 2 }, &w, 16), [format!("version 2, {form}: spare, 1 of 2")]);
+            assert_eq!(kinds(Call::Crew, &w.byte(0, 15, 1), 24), [format!("version 2, {form}: crew, refusal  4")]);
+        }
+    }
+
+    #[test]
     fn what_is_wanted_is_different_and_what_answers_show() {
         let wanted: BTreeSet<String> = all().into_iter().collect();
         assert_eq!(wanted.len(), all().len());
         for call in [Call::Crew, Call::CrewByTrial, Call::Spare { cap: 2 }] {
-            let sheets = [sheet_w(), Draft::of(vec![]), lay(&last_alone(2, 12)), w_and(3, 3, 1, 7)];
-            for sheet in sheets.into_iter().chain([sheet_w().skip(5), one_by_one(1).skip(2)]) {
+            let sheets = [sheet_w(), sheet_w().cut(24), lay(&last_alone(2, 12)), w_and(3, 3, 1, 7)];
+            let others = [sheet_w().skip(5), one_by_one(1).skip(2)].into_iter().chain(Form::ALL.map(sheet_w_in));
+            for sheet in sheets.into_iter().chain(others) {
                 assert!(kinds(call, &sheet, 100).iter().all(|kind| wanted.contains(kind)));
             }
         }

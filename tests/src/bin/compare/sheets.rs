@@ -21,11 +21,11 @@ pub fn any(random: &mut Random) -> Sample {
 fn any_job(random: &mut Random) -> Job {
     match random.below(400) {
         // Few of these: of some every plan has to be tried, up to 100,000.
-        0..=5 => tried_job(random),
-        6..=13 => last_plan_job(random),
-        14..=25 => lopsided_job(random),
-        26..=45 => last_rule_job(random),
-        46..=65 => with_rules(random, MOST_RULES),
+        0..=15 => tried_job(random),
+        16..=47 => last_plan_job(random),
+        48..=71 => lopsided_job(random),
+        72..=91 => last_rule_job(random),
+        92..=111 => with_rules(random, MOST_RULES),
         _ => small_job(random),
     }
 }

@@ -1,9 +1,10 @@
 //! What kind of case a call is, by the model alone. A run in which a kind never came up has failed.
 
-use model::job::{Job, MOST_PEOPLE, MOST_STEPS};
+use model::job::{Form, Job, MOST_PEOPLE, MOST_STEPS};
 use model::reader::read;
 use model::refusal::{Refusal, BAD_LENGTH, NOT_GRANTED, NO_PLAN, STEP_SIGNED, UNKNOWN};
 use model::signing::{has_plan, Signers, Work, MOST_REFUSALS};
+use sheet_tests::forms::{can_refuse, on_sheet, wanted};
 
 /// What is known before a call.
 pub struct Before<'a> {
@@ -71,11 +72,17 @@ const NAMED: [&str; 52] = [
     "not counted, above the stop",
 ];
 
-/// Every kind, and all that a call may return.
+/// Every kind, and all that a call may return on sheets of every form.
 pub fn all() -> impl Iterator<Item = String> {
-    let openings = [0].into_iter().chain(BAD_LENGTH..=NO_PLAN).map(|refusal| returned("opening", refusal));
+    NAMED.into_iter().map(String::from).chain(wanted(all_returned))
+}
+
+/// What openings with sheets of a form may return, and signings of jobs that hold one.
+fn all_returned(form: Form) -> Vec<String> {
+    let refusals = (BAD_LENGTH..=NO_PLAN).filter(|&number| can_refuse(form, number));
+    let openings = [0].into_iter().chain(refusals).map(|refusal| returned("opening", refusal));
     let signings = [0, UNKNOWN, STEP_SIGNED, NOT_GRANTED].into_iter().map(|refusal| returned("signing", refusal));
-    NAMED.into_iter().map(String::from).chain(openings).chain(signings)
+    openings.chain(signings).collect()
 }
 
 /// The refusal that a call gives, 0 where it gives none.
@@ -117,7 +124,7 @@ pub fn of_opening(before: &Before, sheet: &[u8], number: u32) -> Vec<String> {
         (refusal == NO_PLAN && used, "opening refused, no plan, over signings and a count"),
         (refused && !made, "opening refused, over memory that no call has made"),
     ]);
-    kinds.push(returned("opening", refusal));
+    kinds.push(on_sheet(sheet, &returned("opening", refusal)));
     kinds
 }
 
@@ -129,7 +136,7 @@ pub fn of_signing(before: &Before, step: u32, person: u32, number: u32) -> Vec<S
         (refused && count == MOST_REFUSALS, "not counted, at the stop"),
         (refused && count > MOST_REFUSALS, "not counted, above the stop"),
     ]);
-    kinds.push(returned("signing", refusal));
+    kinds.push(on_sheet(before.work.held().unwrap_or_default(), &returned("signing", refusal)));
     kinds.extend(match (before.work.job(), refusal) {
         (None, _) => of_nothing_held(before.work),
         (Some(job), UNKNOWN) => of_unknown(before, &job, step, person),

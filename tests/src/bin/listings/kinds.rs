@@ -1,11 +1,18 @@
 //! What the listings of both programs show.
 
-use model::job::{Job, MOST_RULES};
+use model::job::{Form, Job, MOST_RULES};
 use sheet_tests::skipped::skips_some;
 
-/// A listing that is no refusal, and how many of these there have to be.
+/// A listing that is no refusal.
 pub const PLAN: &str = "a plan";
-pub const LEAST_PLANS: u64 = 200;
+
+/// How many of these there have to be on sheets of a form.
+pub fn least_plans(form: Form) -> u64 {
+    match form {
+        Form::First => 200,
+        Form::Second { .. } => 100,
+    }
+}
 
 const NO_RULE: &str = "a plan, no RULE line";
 const ALL_RULES: &str = "a plan, 64 RULE lines";

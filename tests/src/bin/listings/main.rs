@@ -6,9 +6,11 @@ mod kinds;
 mod planner;
 mod program;
 
+use model::job::Form;
 use model::random::Random;
 use program::Program;
 use sheet_tests::files::{self, Action};
+use sheet_tests::forms::{in_form, on_sheet, wanted};
 use sheet_tests::listings::{under, Stored};
 use sheet_tests::order::Order;
 use sheet_tests::tally::Tally;
@@ -20,7 +22,7 @@ const USAGE: &str = "usage: listings write | check
        listings [--by-trial] COUNT SEED [--seconds N] PROGRAM
 The program is the planning program, or with --by-trial the one that tries every plan.";
 
-/// The kinds of a listing that is right, or what is wrong with it.
+/// The kinds of a listing that is right, whatever the form of its sheet, or what is wrong with it.
 type Verdict = Result<Vec<String>, String>;
 
 struct Drawn {
@@ -40,8 +42,8 @@ struct Subject {
     large: Option<fn(&Drawn, &str) -> Verdict>,
     /// The kind of a right listing, however it was judged, that the wrong program of tests/wrong cannot print.
     lost: fn(&str) -> Option<String>,
-    /// The kinds that have to be met, beside enough plans.
-    wanted: fn() -> Vec<String>,
+    /// The kinds that have to be met on sheets of a form, beside enough plans.
+    wanted: fn(Form) -> Vec<String>,
 }
 
 /// Has the sheet listed, and enters what the judge says of it.
@@ -50,7 +52,7 @@ fn enter(subject: &Subject, program: &Program, sheet: &[u8], judge: impl Fn(&str
     let judged = |printed: String| Ok((judge(&printed)?, (subject.lost)(&printed)));
     match program.listing(sheet).and_then(judged) {
         Ok((kinds, lost)) => {
-            kinds.into_iter().chain(lost).for_each(|kind| tally.count(kind));
+            kinds.iter().map(|kind| on_sheet(sheet, kind)).chain(lost).for_each(|kind| tally.count(kind));
             tally.enter(number, sheet, &[]);
         }
         Err(fault) => tally.enter(number, sheet, &[fault]),
@@ -92,8 +94,10 @@ fn run(order: &Order, subject: &Subject, program: &Program, stored: &str) -> Tal
         let judge = |printed: &str| by_file(stored, subject.stored.file, &name, printed);
         enter(subject, program, &sheet, judge, &mut tally);
     }
-    tally.want_times(kinds::LEAST_PLANS, kinds::PLAN);
-    tally.want((subject.wanted)());
+    for form in Form::ALL {
+        tally.want_times(kinds::least_plans(form), &in_form(form, kinds::PLAN));
+    }
+    tally.want(wanted(subject.wanted));
     tally
 }
 

@@ -4,6 +4,12 @@ use borrow.Author.Needs.{needs}
 use Rattle.card.proofs.fields.rule_ok.Statement.{statement}
 use Rattle.card.proofs.fields.rule_ok.Tie as tie
 
+class-levels-requires : tie.Need-class-levels-requires
+class-levels-requires c κs = search needs
+
+add-levels : tie.Need-add-levels
+add-levels c = search needs
+
 byte-requires : tie.Need-byte-requires
 byte-requires c κs = search needs
 
@@ -35,20 +41,23 @@ returns : tie.Need-returns
 unfolding ruleOk
 returns c =
     rw (
+      c .long2 .ensures .0,
+      c .before .long .ensures .0,
       c .before .before .limit-ok .ensures,
       c .before .before .before .scope-size .ensures,
       c .before .before .before .before .byte3 .ensures .0,
       c .before .before .before .before .before .byte2 .ensures .0,
       c .before .before .before .before .before .before .word .ensures .0,
       c .before .before .before .before .before .before .before .byte .ensures .0,
-      c .before .long .ensures .0,
-      c .long2 .ensures .0,
+      c .before .before .before .before .before .before .before .before .class-levels .ensures .0,
     )
 
 pub rule-ok-spec : {M : Type 1} → statement M
 rule-ok-spec =
     tie.close
     (tie.spec
+    class-levels-requires
+    add-levels
     byte-requires
     word-requires
     byte-requires-2

@@ -32,54 +32,54 @@ abbrev start : tie.At-loop Inv-loop μ-loop → tie.Start Inv-loop μ-loop
 start c = c .before .before .before .before .before
 
 -- the arrays have their sizes
-columns : (c : tie.Start Inv-loop μ-loop) → Columns (c .args .t1 .shop) (c .args .t1 .bench) (c .args .plan .now)
-columns c = record { shops = search needs; benches = search needs; sized = c .pre .sized }
+columns : (c : tie.Start Inv-loop μ-loop) → Columns (c .args .t1 .levels) (c .args .t1 .class) (c .args .plan .now)
+columns c = record { few = c .pre .levels; classes = search needs; sized = c .pre .sized }
 
 -- the rule of a turn is one of the sheet's
 below : (c : tie.In-loop Inv-loop μ-loop) → c .before .loop .i < 64
 below c = omega (arith, start (c .before) .pre .few, c .loop-test .taken)
 
 array-read-rule-count : tie.Need-array-read-rule-count Inv-loop μ-loop
-array-read-rule-count c = below (c .before .before .before)
+array-read-rule-count c = below (c .before .before)
 
 mul-rule-count : tie.Need-mul-rule-count Inv-loop μ-loop
-mul-rule-count c = omega (arith, below (c .before .before .before))
+mul-rule-count c = omega (arith, below (c .before .before))
 
 array-read-rule-count-2 : tie.Need-array-read-rule-count-2 Inv-loop μ-loop
-array-read-rule-count-2 c = below (c .before .before .before)
+array-read-rule-count-2 c = below (c .before .before)
 
 rule-count-requires : tie.Need-rule-count-requires Inv-loop μ-loop
 rule-count-requires c κs =
-    let t = c .before .before .before in
+    let t = c .before .before in
     let s = start (t .before) in
     let i = t .before .loop .i in
     (columns s, s .pre .scoped i (t .loop-test .taken), λ u h. s .pre .staffed i u (t .loop-test .taken) h)
 
 mul-size : tie.Need-mul-size Inv-loop μ-loop
-mul-size c = omega (arith, below (c .before .before .before .before))
+mul-size c = omega (arith, below (c .before .before .before))
 
 array-read-size : tie.Need-array-read-size Inv-loop μ-loop
-array-read-size c = below (c .before .before .before .before)
+array-read-size c = below (c .before .before .before)
 
 size-requires : tie.Need-size-requires Inv-loop μ-loop
 size-requires c κs = tt
 
 array-read-is-met : tie.Need-array-read-is-met Inv-loop μ-loop
-array-read-is-met c = below (c .before .before .before .before .before)
+array-read-is-met c = below (c .before .before .before .before)
 
 array-read-is-met-2 : tie.Need-array-read-is-met-2 Inv-loop μ-loop
-array-read-is-met-2 c = below (c .before .before .before .before .before)
+array-read-is-met-2 c = below (c .before .before .before .before)
 
 is-met-requires : tie.Need-is-met-requires Inv-loop μ-loop
 is-met-requires c κs = tt
 
 -- what is said of a rule
-said : (c : tie.After-is-met Inv-loop μ-loop) → let t = c .before .before .before .before .before .before in
+said : (c : tie.After-is-met Inv-loop μ-loop) → let t = c .before .before .before .before .before in
     let s = start (t .before) .args in
     ForInstances (s .rules) (s .t1) (λ j. c .is-met .result ≡ met j (j .rule (t .before .loop .i)) (planOf (s .plan .now)))
 said c people steps w =
     let n = c .before .before in
-    let t = n .before .before .before .before in
+    let t = n .before .before .before in
     let s = start (t .before) .args in
     let i = t .before .loop .i in
     let few = start (t .before) .pre .scoped i (t .loop-test .taken) in
@@ -93,19 +93,19 @@ said c people steps w =
 returns : tie.Need-returns Inv-loop μ-loop
 returns c people steps w =
     let h = c .before in
-    let t = h .before .before .before .before .before .before in
+    let t = h .before .before .before .before .before in
     passed-found _ _ _ (t .before .loop .inv people steps w) (t .loop-test .taken) (ap not (sym (said h people steps w)) ∙ c .if1 .taken)
 
 add-i : tie.Need-add-i Inv-loop μ-loop
-add-i c = omega (arith, below (c .before .before .before .before .before .before .before))
+add-i c = omega (arith, below (c .before .before .before .before .before .before))
 
 loop-less : tie.Need-loop-less Inv-loop μ-loop
-loop-less c = omega (arith, c .before .before .before .before .before .before .before .loop-test .taken)
+loop-less c = omega (arith, c .before .before .before .before .before .before .loop-test .taken)
 
 loop-again : tie.Need-loop-again Inv-loop μ-loop
 loop-again c people steps w =
     let h = c .before in
-    let t = h .before .before .before .before .before .before in
+    let t = h .before .before .before .before .before in
     passed-more _ _ _ (t .before .loop .inv people steps w) (t .loop-test .taken) (ap not (sym (said h people steps w)) ∙ c .if1 .left)
 
 returns-2 : tie.Need-returns-2 Inv-loop μ-loop

@@ -11,11 +11,11 @@ use Rattle.instance.proofs.count.first_alike.Statement.{statement}
 use Rattle.instance.proofs.count.first_alike.Tie as tie
 
 abbrev Inv-loop : tie.InvT-loop
-Inv-loop shop bench level plan s class t₀ t =
-    Passed s (λ u. eqb (classAt shop bench level (planOf plan u)) (classAt shop bench level (planOf plan s))) t
+Inv-loop class levels level plan s own t₀ t =
+    Passed s (λ u. eqb (classAt levels class level (planOf plan u)) (classAt levels class level (planOf plan s))) t
 
 abbrev μ-loop : tie.MeasureT-loop
-μ-loop shop bench level plan s class t₀ t = s - t
+μ-loop class levels level plan s own t₀ t = s - t
 
 element-copy-out-class-of : tie.Need-element-copy-out-class-of Inv-loop μ-loop
 element-copy-out-class-of c = c .pre .1
@@ -24,7 +24,7 @@ cast-class-of : tie.Need-cast-class-of Inv-loop μ-loop
 cast-class-of c = let s = c .before in omega (arith, s .pre .2 (s .args .s) (omega arith))
 
 class-of-requires : tie.Need-class-of-requires Inv-loop μ-loop
-class-of-requires c κs = let s = c .before in (s .pre .0 .shops, s .pre .0 .benches, s .pre .2 (s .args .s) (omega arith))
+class-of-requires c κs = let s = c .before in (s .pre .0 .classes, s .pre .0 .few, s .pre .2 (s .args .s) (omega arith))
 
 loop-holds : tie.Need-loop-holds Inv-loop μ-loop
 loop-holds c = passed-none _ _
@@ -46,7 +46,7 @@ class-of-requires-2 : tie.Need-class-of-requires-2 Inv-loop μ-loop
 class-of-requires-2 c κs =
     let l = c .before in
     let s = start (l .before) in
-    (s .pre .0 .shops, s .pre .0 .benches, s .pre .2 (l .before .loop .t) (omega (arith, l .loop-test .taken)))
+    (s .pre .0 .classes, s .pre .0 .few, s .pre .2 (l .before .loop .t) (omega (arith, l .loop-test .taken)))
 
 returns : tie.Need-returns Inv-loop μ-loop
 returns c =

@@ -11,10 +11,10 @@ use Rattle.instance.proofs.count.rule_count.Statement.{statement}
 use Rattle.instance.proofs.count.rule_count.Tie as tie
 
 abbrev Inv-loop : tie.InvT-loop
-Inv-loop shop bench level scope plan left₀ labels₀ left labels = Gathered scope (firstAlike (λ s. classAt shop bench level (planOf plan s))) left labels
+Inv-loop class levels level scope plan left₀ labels₀ left labels = Gathered scope (firstAlike (λ s. classAt levels class level (planOf plan s))) left labels
 
 abbrev μ-loop : tie.MeasureT-loop
-μ-loop shop bench level scope plan left₀ labels₀ left labels = left
+μ-loop class levels level scope plan left₀ labels₀ left labels = left
 
 loop-holds : tie.Need-loop-holds Inv-loop μ-loop
 loop-holds c = gathered-none
@@ -32,7 +32,7 @@ turn c = turn-below (stands c .before .args .scope) (stands c .loop .inv .part) 
 
 -- the class of each step's person
 abbrev classes : tie.After-take Inv-loop μ-loop → ℕ → ℕ
-classes c s = let a = stands c .before .args in classAt (a .shop .now) (a .bench .now) (a .level) (planOf (a .plan .now) s)
+classes c s = let a = stands c .before .args in classAt (a .levels) (a .class .now) (a .level) (planOf (a .plan .now) s)
 
 first-alike-requires : tie.Need-first-alike-requires Inv-loop μ-loop
 first-alike-requires c κs =

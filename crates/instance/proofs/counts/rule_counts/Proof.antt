@@ -24,25 +24,25 @@ abbrev start : tie.At-loop Inv-loop μ-loop → tie.Start Inv-loop μ-loop
 start c = c .before .before .before
 
 -- the arrays have their sizes
-columns : (c : tie.Start Inv-loop μ-loop) → Columns (c .args .t1 .shop) (c .args .t1 .bench) (c .args .plan .now)
-columns c = record { shops = search needs; benches = search needs; sized = c .pre .sized }
+columns : (c : tie.Start Inv-loop μ-loop) → Columns (c .args .t1 .levels) (c .args .t1 .class) (c .args .plan .now)
+columns c = record { few = c .pre .levels; classes = search needs; sized = c .pre .sized }
 
 -- the rule of a turn is one of the sheet's
 below : (c : tie.In-loop Inv-loop μ-loop) → c .before .loop .i < 64
 below c = omega (arith, start (c .before) .pre .few, c .loop-test .taken)
 
 array-read-rule-count : tie.Need-array-read-rule-count Inv-loop μ-loop
-array-read-rule-count c = below (c .before .before .before)
+array-read-rule-count c = below (c .before .before)
 
 mul-rule-count : tie.Need-mul-rule-count Inv-loop μ-loop
-mul-rule-count c = omega (arith, below (c .before .before .before))
+mul-rule-count c = omega (arith, below (c .before .before))
 
 array-read-rule-count-2 : tie.Need-array-read-rule-count-2 Inv-loop μ-loop
-array-read-rule-count-2 c = below (c .before .before .before)
+array-read-rule-count-2 c = below (c .before .before)
 
 rule-count-requires : tie.Need-rule-count-requires Inv-loop μ-loop
 rule-count-requires c κs =
-    let t = c .before .before .before in
+    let t = c .before .before in
     let s = start (t .before) in (
       columns s,
       s .pre .scoped (t .before .loop .i) (t .loop-test .taken),
@@ -53,17 +53,17 @@ cast-counts : tie.Need-cast-counts Inv-loop μ-loop
 cast-counts c = omega (arith, c .rule-count .ensures .0)
 
 array-write-counts : tie.Need-array-write-counts Inv-loop μ-loop
-array-write-counts c = below (c .before .before .before .before)
+array-write-counts c = below (c .before .before .before)
 
 add-i : tie.Need-add-i Inv-loop μ-loop
-add-i c = omega (arith, below (c .before .before .before .before))
+add-i c = omega (arith, below (c .before .before .before))
 
 loop-less : tie.Need-loop-less Inv-loop μ-loop
-loop-less c = omega (arith, c .before .before .before .before .loop-test .taken)
+loop-less c = omega (arith, c .before .before .before .loop-test .taken)
 
 loop-again : tie.Need-loop-again Inv-loop μ-loop
 loop-again c =
-    let t = c .before .before .before .before in
+    let t = c .before .before .before in
     let l = t .before .loop in (
       omega (arith, t .loop-test .taken),
       λ people steps w. counts-more _ _ (l .inv .1 people steps w) (below t) (c .rule-count .ensures .1 steps (w (l .i) (t .loop-test .taken))),

@@ -4,6 +4,7 @@ use Prim.Native.Nat.{suc, _+_, _*_, _-_, _≤_, _<_}
 use native.Mathlib.Omega.{arith}
 use borrow.Author.Tests.{not-false}
 use Rattle.bits.proofs.Says.{says-true}
+use Rattle.bits.specs.Sizes.{classEntries}
 use Rattle.pattern.proofs.Nesting.{number-is}
 use Rattle.levels.proofs.Crowds.{Completing, completing-none, completing-more, completed}
 use Rattle.levels.proofs.index.crowds.Statement.{statement}
@@ -46,7 +47,7 @@ with-requires c κs = omega (arith, c .before .before .before .before .before .b
 abbrev start : tie.In-loop Inv-loop μ-loop → tie.Start Inv-loop μ-loop
 start c = c .before .before .before .before .before .before
 
-index : (c : tie.In-loop Inv-loop μ-loop) → (start c .args .levels - 1) * 64 + c .before .loop .p < 192
+index : (c : tie.In-loop Inv-loop μ-loop) → (start c .args .levels - 1) * 64 + c .before .loop .p < classEntries
 index c = omega (arith, start c .pre .0, start c .pre .1 .few, c .loop-test .taken, c .before .before .before .before .before .if1 .left)
 
 mul-crowd : tie.Need-mul-crowd Inv-loop μ-loop

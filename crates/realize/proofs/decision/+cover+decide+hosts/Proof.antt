@@ -7,6 +7,7 @@ use native.Mathlib.Omega.{arith}
 use borrow.Author.Needs.{needs}
 use borrow.Author.Tests.{not-true, not-false}
 use Rattle.realize.specs.Decision.{Hosting, Linked}
+use Rattle.bits.specs.Sizes.{classEntries}
 use Rattle.bits.proofs.Masks.{taken-below}
 use Rattle.realize.proofs.Rows.{group-sized, heads-few, hosting-none, hosting-skip, hosting-take, hosted-last, hosted-single, hosted-tried}
 use Rattle.realize.proofs.Rows.{linked-none, linked-next, covering-all, covering-none}
@@ -204,7 +205,7 @@ hosts-start t c = c .before .before .before .before .before .before .before .bef
 
 -- `nest` has what lies inside class v
 hosts-index : (t : ℕ) (c : hosts-lts.After-take (hosts-claims t) (hosts-at t) hosts.Post hosts-Inv-loop hosts-μ-loop)
-    → hosts-start t c .args .task .q * 64 + c .take .result .first < 192
+    → hosts-start t c .args .task .q * 64 + c .take .result .first < classEntries
 hosts-index t c = let p = hosts-start t c .pre .1 in omega (arith, c .take .ensures .0)
 
 hosts-add-q : (t : ℕ) → hosts-lts.Need-add-q (hosts-claims t) (hosts-at t) hosts.Post hosts-Inv-loop hosts-μ-loop

@@ -7,6 +7,7 @@ use lib.ListN.{getD}
 use borrow.Author.Needs.{needs}
 use borrow.Author.Tests.{not-true, not-false}
 use Rattle.realize.specs.Filling.{Sent}
+use Rattle.bits.specs.Sizes.{classEntries}
 use Rattle.bits.proofs.Masks.{taken-below}
 use Rattle.realize.proofs.Rows.{group-sized, heads-few}
 use Rattle.realize.proofs.Fill.{class-given, sent-none, sent-next, filled-last, filled-none, filled-sent}
@@ -90,7 +91,7 @@ below t c =
 -- `nest` has what lies inside its class
 index : (t : ℕ) (c : fill-lts.After-take (claims t) (fill-at t) fill.Post Inv-loop μ-loop)
     → let a = c .before .before .before .before .before .before .before in
-    a .before .before .before .args .task .q * 64 + getD (a .cover .result .at) (c .take .result .first) 0 < 192
+    a .before .before .before .args .task .q * 64 + getD (a .cover .result .at) (c .take .result .first) 0 < classEntries
 index t c =
     let l = c .before .before in
     let h = l .before in

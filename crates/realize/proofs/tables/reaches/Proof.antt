@@ -3,6 +3,7 @@ use mathlib.Core.Path.{_≡_}
 use Prim.Native.Nat.{ℕ, _+_, _*_, _≤_, _-_}
 use native.Mathlib.Omega.{arith}
 use lib.ListN.{length-replicate}
+use Rattle.bits.specs.Sizes.{labelEntries}
 use Rattle.realize.specs.Parts.{ReachedFrom}
 use Rattle.realize.proofs.Reach.{reached-none, reached-from, reached-all}
 use Rattle.realize.proofs.tables.reaches.Statement.{statement}
@@ -17,7 +18,7 @@ abbrev μ-loop : tie.MeasureT-loop
 loop-holds : tie.Need-loop-holds Inv-loop μ-loop
 loop-holds c =
     let a = c .args in
-    (omega arith, reached-none (a .people) (a .class .now) (a .may .now) ((a .levels - 0) * 12) (a .levels * 12) (omega arith) (length-replicate {A = ℕ} 36 0))
+    (omega arith, reached-none (a .people) (a .class .now) (a .may .now) ((a .levels - 0) * 12) (a .levels * 12) (omega arith) (length-replicate {A = ℕ} labelEntries 0))
 
 sub-level-reach : tie.Need-sub-level-reach Inv-loop μ-loop
 sub-level-reach c = omega arith

@@ -3,12 +3,13 @@ use mathlib.Core.Path.{_≡_}
 use Prim.Native.Nat.{_≤_, _-_}
 use native.Mathlib.Omega.{arith}
 use lib.ListN.{length}
+use Rattle.bits.specs.Sizes.{labelEntries}
 use Rattle.pattern.proofs.Given.{scope-small}
 use Rattle.search.proofs.ways.by_rules.Statement.{statement}
 use Rattle.search.proofs.ways.by_rules.Tie as tie
 
 abbrev Inv-loop : tie.InvT-loop
-Inv-loop rule placed label free₀ rules i₀ free i = (i ≤ rules) × (length free ≡ 36)
+Inv-loop rule placed label free₀ rules i₀ free i = (i ≤ rules) × (length free ≡ labelEntries)
 
 abbrev μ-loop : tie.MeasureT-loop
 μ-loop rule placed label free₀ rules i₀ free i = rules - i

@@ -4,11 +4,12 @@ use native.Mathlib.Omega.{arith}
 use lib.ListN.{length}
 use mathlib.Core.Path.{_≡_, refl}
 use lib.ListN.{length-set}
+use Rattle.bits.specs.Sizes.{mostLevels}
 use Rattle.search.proofs.ways.heads_of.Statement.{statement}
 use Rattle.search.proofs.ways.heads_of.Tie as tie
 
 abbrev Inv-loop : tie.InvT-loop
-Inv-loop levels placed label heads₀ q₀ heads q = (q ≤ levels) × (length heads ≡ 3)
+Inv-loop levels placed label heads₀ q₀ heads q = (q ≤ levels) × (length heads ≡ mostLevels)
 
 abbrev μ-loop : tie.MeasureT-loop
 μ-loop levels placed label heads₀ q₀ heads q = levels - q

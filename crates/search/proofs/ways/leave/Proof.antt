@@ -5,11 +5,12 @@ use lib.ListN.{length}
 use borrow.Author.Needs.{needs}
 use mathlib.Core.Path.{_≡_}
 use lib.ListN.{length-set}
+use Rattle.bits.specs.Sizes.{labelEntries}
 use Rattle.search.proofs.ways.leave.Statement.{statement}
 use Rattle.search.proofs.ways.leave.Tie as tie
 
 abbrev Inv-loop : tie.InvT-loop
-Inv-loop steps top labels free₀ left₀ free left = (left < 4096) × (length free ≡ 36)
+Inv-loop steps top labels free₀ left₀ free left = (left < 4096) × (length free ≡ labelEntries)
 
 abbrev μ-loop : tie.MeasureT-loop
 μ-loop steps top labels free₀ left₀ free left = left

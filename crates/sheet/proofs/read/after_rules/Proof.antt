@@ -8,8 +8,8 @@ use borrow.Author.Needs.{needs}
 use borrow.Author.Tests.{ltb-true, ltb-false}
 use Rattle.sheet.specs.Cards.{Marking}
 use Rattle.sheet.specs.Read.{onThree}
-use Rattle.sheet.proofs.Arrays.{Filled, person-tags-length, step-tags-length, benches-length, shops-length}
-use Rattle.sheet.proofs.Arrays.{refuse-person-tag, refuse-step-tag, refuse-bench, refuse-loose, read-job}
+use Rattle.sheet.proofs.Arrays.{Filled, person-tags-length, step-tags-length, classes-length, levels-few}
+use Rattle.sheet.proofs.Arrays.{refuse-person-tag, refuse-step-tag, refuse-class, refuse-loose, read-job}
 use Rattle.sheet.proofs.Four.{four-one, four-two, four-three, four-four, four-none}
 use Rattle.sheet.proofs.read.after_rules.Statement.{statement}
 use Rattle.sheet.proofs.read.after_rules.Tie as tie
@@ -19,7 +19,7 @@ filled : (c : tie.After-fill-job) → let a = c .before .before .args in
     Filled (now (a .s)) (now (a .people)) (now (a .steps)) (now (a .rules)) (a .p) (a .n) (a .r) (c .fill-job .result)
 filled c =
     let q = c .before .before .pre in
-    record { people-listed = q .0; steps-listed = q .1; few = q .2; rules-listed = q .3; arrays = c .fill-job .ensures }
+    record { people-listed = q .0; steps-listed = q .1; few = q .2; rules-listed = q .3; arrays = c .fill-job .ensures; few-levels = q .4 .levels }
 
 -- the marks are those of the three chains
 marking : (c : tie.After-fill-job) → let a = c .before .before .args in
@@ -32,28 +32,30 @@ sheet-length c = omega arith
 
 -- the places that a later one has behind it: where the arrays were filled, and where each search has ended
 abbrev fill-of : tie.After-tag-clash → tie.After-fill-job
-fill-of t = t .before .before .before .before .before .before
+fill-of t = t .before .before .before .before .before
 
 abbrev people-of : tie.After-first-found → tie.After-tag-clash
-people-of f = f .before .before .before .before .before .before .before
+people-of f = f .before .before .before .before .before .before
 
 abbrev steps-of : tie.After-first-found → tie.After-tag-clash2
-steps-of f = f .before .before .before .before .before
+steps-of f = f .before .before .before .before
 
-abbrev benches-of : tie.After-first-found → tie.After-bench-clash
-benches-of f = f .before .before
+abbrev classes-of : tie.After-first-found → tie.After-class-clash
+classes-of f = f .before .before
 
 abbrev start : tie.After-first-found → tie.Start
 start f = fill-of (people-of f) .before .before
 
 fill-job-requires : tie.Need-fill-job-requires
-fill-job-requires c κs = search needs
+fill-job-requires c κs =
+    let q = c .before .pre in
+    (q .0, q .1, q .2, q .3, omega (arith, q .4 .some, q .4 .whole), q .4 .levels)
 
 slice-aggregate-tag-clash : tie.Need-slice-aggregate-tag-clash
 slice-aggregate-tag-clash c = search needs
 
 tag-clash-requires : tie.Need-tag-clash-requires
-tag-clash-requires c κs = person-tags-length (filled (c .before .before .before .before .before))
+tag-clash-requires c κs = person-tags-length (filled (c .before .before .before .before))
 
 slice-aggregate-tag-clash-2 : tie.Need-slice-aggregate-tag-clash-2
 slice-aggregate-tag-clash-2 c = search needs
@@ -61,10 +63,10 @@ slice-aggregate-tag-clash-2 c = search needs
 tag-clash-requires-2 : tie.Need-tag-clash-requires-2
 tag-clash-requires-2 c κs = step-tags-length (filled (fill-of (c .before)))
 
-bench-clash-requires : tie.Need-bench-clash-requires
-bench-clash-requires c κs =
-    let w = filled (fill-of (c .before .before .before .before)) in
-    (w .people-listed .fits, benches-length w, shops-length w)
+class-clash-requires : tie.Need-class-clash-requires
+class-clash-requires c κs =
+    let w = filled (fill-of (c .before .before .before)) in
+    (classes-length w, levels-few w, w .people-listed .fits)
 
 first-loose-requires : tie.Need-first-loose-requires
 first-loose-requires c κs = search needs
@@ -80,9 +82,9 @@ step-found : (f : tie.After-first-found) → f .first-found .result ≡ 2
     → (start f .args .p ≤ people-of f .tag-clash .result) × (steps-of f .tag-clash2 .result < start f .args .n)
 step-found f e = let w = four-two _ _ _ _ (sym (f .first-found .ensures) ∙ e) in (ltb-false _ _ (w .0), ltb-true _ _ (w .1))
 
-bench-found : (f : tie.After-first-found) → f .first-found .result ≡ 3
-    → (start f .args .p ≤ people-of f .tag-clash .result) × (start f .args .n ≤ steps-of f .tag-clash2 .result) × (benches-of f .bench-clash .result < start f .args .p)
-bench-found f e =
+class-found : (f : tie.After-first-found) → f .first-found .result ≡ 3
+    → (start f .args .p ≤ people-of f .tag-clash .result) × (start f .args .n ≤ steps-of f .tag-clash2 .result) × (classes-of f .class-clash .result < start f .args .p)
+class-found f e =
     let w = four-three _ _ _ _ (sym (f .first-found .ensures) ∙ e) in (ltb-false _ _ (w .0), ltb-false _ _ (w .1), ltb-true _ _ (w .2))
 
 element-copy-out-refused : tie.Need-element-copy-out-refused
@@ -115,12 +117,12 @@ refused-requires-2 c κs = search needs
 element-copy-out-refused-3 : tie.Need-element-copy-out-refused-3
 element-copy-out-refused-3 c =
     let f = c .before in
-    omega (arith, bench-found f (c .match .keys3) .2, filled (fill-of (people-of f)) .people-listed .fits)
+    omega (arith, class-found f (c .match .keys3) .2, filled (fill-of (people-of f)) .people-listed .fits)
 
 cast-refused-3 : tie.Need-cast-refused-3
 cast-refused-3 c =
     let f = c .before .before in
-    omega (arith, filled (fill-of (people-of f)) .people-listed .inside (benches-of f .bench-clash .result) (bench-found f (c .before .match .keys3) .2), sheet-length (fill-of (people-of f)))
+    omega (arith, filled (fill-of (people-of f)) .people-listed .inside (classes-of f .class-clash .result) (class-found f (c .before .match .keys3) .2), sheet-length (fill-of (people-of f)))
 
 refused-requires-3 : tie.Need-refused-requires-3
 refused-requires-3 c κs = search needs
@@ -148,9 +150,9 @@ returns-3 c =
     let m = c .before .before in
     let f = m .before in
     let t = people-of f in
-    let w = bench-found f (m .match .keys3) in
-    refuse-bench (filled (fill-of t)) (marking (fill-of t)) (t .tag-clash .ensures) (w .0) (steps-of f .tag-clash2 .ensures) (w .1)
-    (benches-of f .bench-clash .ensures) (w .2) _ (c .refused3 .ensures)
+    let w = class-found f (m .match .keys3) in
+    refuse-class (filled (fill-of t)) (marking (fill-of t)) (t .tag-clash .ensures) (w .0) (steps-of f .tag-clash2 .ensures) (w .1)
+    (classes-of f .class-clash .ensures) (w .2) _ (c .refused3 .ensures)
 
 returns-4 : tie.Need-returns-4
 returns-4 c =
@@ -159,7 +161,7 @@ returns-4 c =
     let t = people-of f in
     let w = four-four _ _ _ _ (sym (f .first-found .ensures) ∙ m .match .keys4) in
     refuse-loose (filled (fill-of t)) (marking (fill-of t)) (t .tag-clash .ensures) (ltb-false _ _ (w .0)) (steps-of f .tag-clash2 .ensures)
-    (ltb-false _ _ (w .1)) (benches-of f .bench-clash .ensures) (ltb-false _ _ (w .2)) (f .before .first-loose .ensures) (ltb-true _ _ (w .3)) _ (c .refused4 .ensures)
+    (ltb-false _ _ (w .1)) (classes-of f .class-clash .ensures) (ltb-false _ _ (w .2)) (f .before .first-loose .ensures) (ltb-true _ _ (w .3)) _ (c .refused4 .ensures)
 
 returns-5 : tie.Need-returns-5
 returns-5 c =
@@ -169,7 +171,7 @@ returns-5 c =
     let r = c .match .rest in
     let w = four-none _ _ _ _ (λ d. r .0 .0 .0 .1 (e ∙ d)) (λ d. r .0 .0 .1 (e ∙ d)) (λ d. r .0 .1 (e ∙ d)) (λ d. r .1 (e ∙ d)) in
     read-job (filled (fill-of t)) (marking (fill-of t)) (t .tag-clash .ensures) (ltb-false _ _ (w .0)) (steps-of f .tag-clash2 .ensures)
-    (ltb-false _ _ (w .1)) (benches-of f .bench-clash .ensures) (ltb-false _ _ (w .2)) (f .before .first-loose .ensures) (ltb-false _ _ (w .3))
+    (ltb-false _ _ (w .1)) (classes-of f .class-clash .ensures) (ltb-false _ _ (w .2)) (f .before .first-loose .ensures) (ltb-false _ _ (w .3))
 
 pub after-rules-spec : {M : Type 1} → statement M
 after-rules-spec =
@@ -180,7 +182,7 @@ after-rules-spec =
     tag-clash-requires
     slice-aggregate-tag-clash-2
     tag-clash-requires-2
-    bench-clash-requires
+    class-clash-requires
     first-loose-requires
     first-found-requires
     element-copy-out-refused

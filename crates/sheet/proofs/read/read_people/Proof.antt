@@ -28,7 +28,7 @@ enum-known-ended-2 c = search needs
 -- no card is marked where the walk starts
 unmarked : (c : tie.After-walk-chain) → let a = c .before .before .before .before .before .args in
     Marking (now (a .s)) (a .cards) (replicate 141 false) (λ x. false)
-unmarked c = let q = c .before .before .before .before .before .pre in nothing-marked _ _ (q .1) (q .2) (q .0)
+unmarked c = let q = c .before .before .before .before .before .pre in nothing-marked _ _ (q .1) (q .2) (q .0) (q .3)
 
 after-people-requires : tie.Need-after-people-requires
 after-people-requires c κs =

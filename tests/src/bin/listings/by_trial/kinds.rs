@@ -1,11 +1,12 @@
 //! What a listing shows. A run in which one of these was never met has failed.
 
 use crate::kinds::{lines, of_plan, refusal, PLAN, RULES, SKIPPED};
-use model::job::{Job, AT_LEAST, AT_MOST, BY_PERSON, BY_SHOP, MOST_RULES, SAME};
+use model::job::{Form, Job, AT_LEAST, AT_MOST, MOST_RULES, SAME};
 use model::plans::plans;
 use model::reader::read;
 use model::refusal::{BAD_LENGTH, LOOSE_CARD};
 use model::trial::{plan_at, verdict, Verdict, SHOWN};
+use sheet_tests::forms::can_refuse;
 use sheet_tests::skipped::skips_some;
 use std::collections::BTreeSet;
 
@@ -50,8 +51,8 @@ fn just(plans: u128, end: &str) -> String {
     format!("{plans} plans, {end}")
 }
 
-/// Every kind but the plan, which is wanted more than once, and the TRY line, whose kinds are wanted.
-pub fn all() -> Vec<String> {
+/// Every kind on sheets of a form but the plan, which is wanted more than once, and the TRY line, whose kinds are wanted.
+pub fn all(form: Form) -> Vec<String> {
     let mut kinds = RULES.map(String::from).to_vec();
     kinds.extend([DENIED_FIRST, DENIED_LATER, DENIED_LAST].map(String::from));
     kinds.extend([BREAKS_FIRST, BREAKS_LATER, BREAKS_LAST].map(String::from));
@@ -60,9 +61,10 @@ pub fn all() -> Vec<String> {
     kinds.extend(SKIPPED.map(String::from));
     kinds.extend([DENIED_BEHIND, NOBODY, NONE_VALID_SKIPPED].map(String::from));
     kinds.extend([AT_MOST, AT_LEAST].map(breaks_left));
-    kinds.extend((SAME..=AT_LEAST).flat_map(|kind| (BY_SHOP..=BY_PERSON).map(move |level| breaks(kind, level))));
+    let levels = 1..=form.person_level();
+    kinds.extend((SAME..=AT_LEAST).flat_map(|kind| levels.clone().map(move |level| breaks(kind, level))));
     kinds.extend([PLAN, NONE_VALID, LEFT].into_iter().flat_map(|end| [SHOWN, NOT_SHOWN].map(|plans| just(plans, end))));
-    kinds.extend((BAD_LENGTH..=LOOSE_CARD).map(refusal));
+    kinds.extend((BAD_LENGTH..=LOOSE_CARD).filter(|&number| can_refuse(form, number)).map(refusal));
     kinds
 }
 
@@ -154,7 +156,7 @@ mod tests {
     use model::builder::{
         last_alone, lay, one_by_one, plain, plain_job, rule, sheet_w, skipped_w, skipping, w_and, Draft,
     };
-    use model::job::DIFFERENT;
+    use model::job::{BY_PERSON, BY_SHOP, DIFFERENT};
     use model::trial::listing;
 
     fn listed(sheet: &Draft) -> String {
@@ -228,7 +230,7 @@ mod tests {
 
     #[test]
     fn what_is_wanted_is_what_listings_show() {
-        let wanted = all();
+        let wanted = all(Form::First);
         let sheets =
             [sheet_w(), w_and(3, 3, 1, 7), one_by_one(1), by_the_last_rule(), plain(10, 3, 0), plain(4, 5, 64)];
         let skipped = [sheet_w().skip(5), one_by_one(1).skip(2), w_and(3, 3, 1, 7).skip(5)];

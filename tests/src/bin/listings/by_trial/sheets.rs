@@ -3,9 +3,12 @@
 
 use crate::Drawn;
 use model::builder::skipping;
+use model::classes::any_form;
 use model::garble::sample_of;
 use model::job::{Job, MOST_RULES, MOST_STEPS};
-use model::jobs::{job_of, laid, last_plan_job, last_rule_job, lopsided_job, small_job, tried_job, with_rules};
+use model::jobs::{
+    counting_job, job_of, laid, last_plan_job, last_rule_job, lopsided_job, small_job, tried_job, with_rules,
+};
 use model::random::Random;
 
 /// People and steps that remain of sheets with as many plans as are printed, and with the next number of them.
@@ -14,13 +17,14 @@ const EDGES: [(usize, usize); 2] = [(10, 3), (4, 5)];
 pub fn any(random: &mut Random) -> Drawn {
     let job = match random.below(50) {
         0..=7 => return Drawn { sheet: sample_of(random, small_job).sheet, planned: false },
-        8..=14 => small_job(random),
+        8..=11 => small_job(random),
+        12..=14 => counting_job(random),
         15..=17 => Job { rules: vec![], ..small_job(random) },
         18..=24 => with_rules(random, 10),
-        25..=27 => with_rules(random, MOST_RULES),
-        28..=32 => last_rule_job(random),
-        33..=36 => at_edge(random),
-        37..=39 => lopsided_job(random),
+        25..=26 => with_rules(random, MOST_RULES),
+        27..=32 => last_rule_job(random),
+        33..=37 => at_edge(random),
+        38..=39 => lopsided_job(random),
         40..=44 => last_plan_job(random),
         _ => tried_job(random),
     };
@@ -31,7 +35,8 @@ fn at_edge(random: &mut Random) -> Job {
     let (people, left) = EDGES[random.below(EDGES.len())];
     let steps = if random.once_in(2) { left } else { random.within(left, MOST_STEPS) };
     let rules = random.below(8);
-    let job = job_of(random, people, steps, rules);
+    let form = any_form(random);
+    let job = job_of(random, form, people, steps, rules);
     let order = random.order(steps);
     skipping(job, order[left..].iter().map(|step| step - 1))
 }

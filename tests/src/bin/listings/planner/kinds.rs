@@ -2,10 +2,11 @@
 
 use crate::kinds::{lines, of_plan, refusal, PLAN, RULES, SKIPPED};
 use model::card::{CARD, STEP};
-use model::job::{Job, Rule, AT_LEAST, AT_MOST, BY_PERSON, BY_SHOP, DIFFERENT, SAME};
+use model::job::{Form, Job, Rule, AT_LEAST, AT_MOST, DIFFERENT, SAME};
 use model::listing::CAP;
 use model::reader::read;
 use model::refusal::{BAD_FIELD, BAD_LENGTH, NO_PLAN};
+use sheet_tests::forms::can_refuse;
 use sheet_tests::skipped::skips_some;
 use std::cmp::Ordering::{self, Equal, Greater, Less};
 
@@ -48,15 +49,15 @@ fn rule_left(kind: u8, level: u8, left: usize, count: Ordering) -> String {
     }
 }
 
-/// Every kind but the plan, which is wanted more than once.
-pub fn all() -> Vec<String> {
+/// Every kind on sheets of a form but the plan, which is wanted more than once.
+pub fn all(form: Form) -> Vec<String> {
     let mut kinds = RULES.map(String::from).to_vec();
     kinds.extend(SKIPPED.map(String::from));
     kinds.extend([NO_PLAN_SKIPPED, BAD_MARK].map(String::from));
     kinds.push(large(PLAN));
-    kinds.extend((BAD_LENGTH..=NO_PLAN).map(refusal));
+    kinds.extend((BAD_LENGTH..=NO_PLAN).filter(|&number| can_refuse(form, number)).map(refusal));
     kinds.extend((0..=CAP).map(spare));
-    for level in BY_SHOP..=BY_PERSON {
+    for level in 1..=form.person_level() {
         for (kind, counts) in COUNTS {
             kinds.extend(counts.iter().map(|&count| rule(kind, level, count)));
             kinds.extend([0, 1].map(|left| rule_left(kind, level, left, Equal)));
@@ -188,15 +189,17 @@ mod tests {
 
     #[test]
     fn every_kind_of_rule_is_wanted_at_every_level() {
-        let wanted: BTreeSet<String> = all().into_iter().collect();
-        let pairs: BTreeSet<&str> = wanted.iter().filter_map(|kind| kind.strip_prefix("RULE ")?.get(..3)).collect();
-        let expected = (1..=4).flat_map(|kind| (1..=3).map(move |level| format!("{kind} {level}")));
-        assert_eq!(pairs, expected.collect::<Vec<_>>().iter().map(String::as_str).collect());
+        for (form, levels) in Form::ALL.into_iter().zip([3, 2, 3, 4]) {
+            let wanted: BTreeSet<String> = all(form).into_iter().collect();
+            let pairs: BTreeSet<&str> = wanted.iter().filter_map(|kind| kind.strip_prefix("RULE ")?.get(..3)).collect();
+            let expected = (1..=4).flat_map(|kind| (1..=levels).map(move |level| format!("{kind} {level}")));
+            assert_eq!(pairs, expected.collect::<Vec<_>>().iter().map(String::as_str).collect(), "{form}");
+        }
     }
 
     #[test]
     fn what_is_wanted_is_what_listings_show() {
-        let wanted = all();
+        let wanted = all(Form::First);
         let skipped = [w_and(4, 3, 3, 7).skip(5), one_by_one(1).skip(2), sheet_w().byte(6, 1, 2)];
         let sheets = [sheet_w(), w_and(4, 3, 3, 7), w_and(3, 1, 2, 3), one_by_one(0), one_by_one(1), plain(1, 2, 64)];
         for sheet in sheets.into_iter().chain(skipped) {

@@ -3,13 +3,14 @@
 use crate::Drawn;
 use model::garble::sample_of;
 use model::job::{Job, MOST_PEOPLE, MOST_RULES, MOST_STEPS};
-use model::jobs::{laid, planned_skipping_job, small_job, with_rules};
+use model::jobs::{counting_job, laid, planned_skipping_job, small_job, with_rules};
 use model::random::Random;
 
 pub fn any(random: &mut Random) -> Drawn {
     let (job, planned) = match random.below(50) {
         0..=11 => return Drawn { sheet: sample_of(random, small_job).sheet, planned: false },
-        12..=21 => (small_job(random), false),
+        12..=16 => (small_job(random), false),
+        17..=21 => (counting_job(random), false),
         22..=24 => (Job { rules: vec![], ..small_job(random) }, false),
         25..=36 => (with_rules(random, 10), true),
         37..=42 => (with_rules(random, MOST_RULES), true),

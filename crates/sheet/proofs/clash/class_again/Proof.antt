@@ -1,9 +1,9 @@
--- Where the first person of the slot has the same bench and the same shop, all earlier ones on that bench have; otherwise the earlier people
+-- Where the first person of the slot has the same class and the same whole, all earlier ones on that class have; otherwise the earlier people
 -- are gone through. Assumes nothing.
 use borrow.Author.Needs.{needs}
-use Rattle.sheet.proofs.Clashes.{same-shop}
-use Rattle.sheet.proofs.clash.bench_again.Statement.{statement}
-use Rattle.sheet.proofs.clash.bench_again.Tie as tie
+use Rattle.sheet.proofs.Clashes.{same-above}
+use Rattle.sheet.proofs.clash.class_again.Statement.{statement}
+use Rattle.sheet.proofs.clash.class_again.Tie as tie
 
 first-there-requires : tie.Need-first-there-requires
 first-there-requires c κs = search needs
@@ -35,16 +35,16 @@ element-copy-out-if1-4 c = search needs
 returns : tie.Need-returns
 returns c =
     let e = c .before .before .before .before .before .first-there .ensures in
-    (same-shop _ _ _ (c .before .before .before .before .before .before .before .pre .3) _ (e .0) (c .if1 .taken), e .1)
+    (same-above _ _ _ (c .before .before .before .before .before .before .before .pre .3) _ (e .0) (c .if1 .taken), e .1)
 
-bench-stood-requires : tie.Need-bench-stood-requires
-bench-stood-requires c κs = search needs
+class-stood-requires : tie.Need-class-stood-requires
+class-stood-requires c κs = search needs
 
 returns-2 : tie.Need-returns-2
 returns-2 c = search needs
 
-pub bench-again-spec : {M : Type 1} → statement M
-bench-again-spec =
+pub class-again-spec : {M : Type 1} → statement M
+class-again-spec =
     tie.close
     (tie.spec
     first-there-requires
@@ -57,5 +57,5 @@ bench-again-spec =
     mul-if1-4
     element-copy-out-if1-4
     returns
-    bench-stood-requires
+    class-stood-requires
     returns-2)

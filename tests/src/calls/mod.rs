@@ -1,7 +1,9 @@
 //! The paper's sheets to try through the calls that plan, each with the number and the bytes that the paper gives it; then caps,
-//! the order of refusals, and skipped steps.
+//! the order of refusals, skipped steps, and sheets of version 2.
 
-use crate::skipped;
+mod levels;
+
+use crate::by_hand::{self, Sheet};
 use model::answers::{crew_bytes, spare_bytes, Call, MOST_CAP, SPARE_BYTES, STEP_BYTES};
 use model::builder::{lay, one_by_one, plain, sheet_w, shorter_w, skipped_w, w_and, Draft};
 use model::job::MOST_STEPS;
@@ -70,9 +72,10 @@ pub fn all() -> Vec<Trial> {
     trials.extend(rooms());
     trials.extend(caps());
     trials.extend(refusals_in_order());
-    trials.extend(skipped::all().iter().flat_map(skipping));
+    trials.extend(by_hand::in_every_form().iter().flat_map(worked_out));
     trials.extend(rooms_of_skipped());
     trials.extend(all_skipped());
+    trials.extend(levels::trials());
     let crews: Vec<Trial> = trials.iter().filter(|trial| trial.call == Call::Crew).cloned().collect();
     trials.extend(crews.iter().map(by_trial));
     trials
@@ -199,8 +202,8 @@ fn refusals_in_order() -> Vec<Trial> {
 }
 
 /// "Plan, crew bytes, PLAN line and buffer length cover the steps that remain."
-fn skipping(sheet: &skipped::Sheet) -> [Trial; 2] {
-    let skipped::Sheet { name, job, planned, .. } = sheet;
+fn worked_out(sheet: &Sheet) -> [Trial; 2] {
+    let Sheet { name, job, planned, .. } = sheet;
     let draft = lay(job);
     match planned {
         Some(planned) => [crew(name, &draft, &planned.crew), spare(name, &draft, 2, planned.count, &planned.away)],
@@ -256,7 +259,10 @@ fn all_skipped() -> Vec<Trial> {
 #[cfg(test)]
 mod tests {
     use super::*;
+    use crate::levels::{each_number, second};
     use model::answers::answer;
+    use model::reader::stated_form;
+    use model::refusal::Refusal;
     use std::collections::BTreeSet;
 
     #[test]
@@ -278,6 +284,19 @@ mod tests {
             let names: Vec<String> = called.map(|trial| trial.name).collect();
             let tried = |k: &i32| names.iter().any(|name| name.starts_with(&format!("sheet {k},")));
             assert!((1..=15).all(|k| tried(&k)));
+        }
+    }
+
+    #[test]
+    fn each_refusal_is_tried_in_every_call_with_each_number_of_levels() {
+        for levels in each_number() {
+            for call in [Call::Crew, Call::CrewByTrial, Call::Spare { cap: 2 }] {
+                let is_meant = |trial: &Trial| trial.call == call && stated_form(&trial.sheet) == Some(second(levels));
+                let refusals = all().into_iter().filter(is_meant).filter_map(|trial| Refusal::of(trial.number));
+                let met: BTreeSet<u32> = refusals.map(|refusal| refusal.number).collect();
+                let expected = [1].into_iter().chain(3..=13).filter(|number| *number != 11 || levels > 1);
+                assert_eq!(met, expected.collect(), "{levels} levels, {call:?}");
+            }
         }
     }
 

@@ -6,26 +6,26 @@ use mathlib.Core.Path.{_≡_, refl}
 use Rattle.bits.specs.Below.{any}
 use Rattle.sheet.specs.Cards.{movedAt}
 use Rattle.bits.proofs.Scan.{any-zero, any-more, any-all}
-use Rattle.sheet.proofs.clash.bench_stood.Statement.{statement}
-use Rattle.sheet.proofs.clash.bench_stood.Tie as tie
+use Rattle.sheet.proofs.clash.class_stood.Statement.{statement}
+use Rattle.sheet.proofs.clash.class_stood.Tie as tie
 
 abbrev Inv-loop : tie.InvT-loop
-Inv-loop benches shops k bench shop found₀ j₀ found j = (j ≤ k) × (found ≡ any j (λ i. movedAt benches shops i k))
+Inv-loop below above k class whole found₀ j₀ found j = (j ≤ k) × (found ≡ any j (λ i. movedAt below above i k))
 
 abbrev μ-loop : tie.MeasureT-loop
-μ-loop benches shops k bench shop found₀ j₀ found j = k - j
+μ-loop below above k class whole found₀ j₀ found j = k - j
 
-mul-bench : tie.Need-mul-bench Inv-loop μ-loop
-mul-bench c = search needs
+mul-class : tie.Need-mul-class Inv-loop μ-loop
+mul-class c = search needs
 
-element-copy-out-bench : tie.Need-element-copy-out-bench Inv-loop μ-loop
-element-copy-out-bench c = search needs
+element-copy-out-class : tie.Need-element-copy-out-class Inv-loop μ-loop
+element-copy-out-class c = search needs
 
-mul-shop : tie.Need-mul-shop Inv-loop μ-loop
-mul-shop c = search needs
+mul-whole : tie.Need-mul-whole Inv-loop μ-loop
+mul-whole c = search needs
 
-element-copy-out-shop : tie.Need-element-copy-out-shop Inv-loop μ-loop
-element-copy-out-shop c = search needs
+element-copy-out-whole : tie.Need-element-copy-out-whole Inv-loop μ-loop
+element-copy-out-whole c = search needs
 
 loop-holds : tie.Need-loop-holds Inv-loop μ-loop
 loop-holds c = (omega arith, any-zero _)
@@ -54,16 +54,16 @@ loop-again c = (omega arith, any-more _ _ _ _ (c .before .before .before .loop .
 returns : tie.Need-returns Inv-loop μ-loop
 returns c = any-all _ _ _ _ (c .before .loop .inv .0) (c .loop-test .left) (c .before .loop .inv .1)
 
-pub bench-stood-spec : {M : Type 1} → statement M
-bench-stood-spec =
+pub class-stood-spec : {M : Type 1} → statement M
+class-stood-spec =
     tie.close
     (tie.spec
     Inv-loop
     μ-loop
-    mul-bench
-    element-copy-out-bench
-    mul-shop
-    element-copy-out-shop
+    mul-class
+    element-copy-out-class
+    mul-whole
+    element-copy-out-whole
     loop-holds
     mul-found
     element-copy-out-found
