@@ -11,7 +11,7 @@ PROVED := $(shell find crates -name '*.rt' -o -name '*.antt') crates.txt
 # need TOOL: says what is missing
 need = command -v $(1) > /dev/null || { echo "$(1) is missing: it has to be on the PATH" >&2; exit 1; }
 
-.PHONY: plan try test check bench record sign trial skipped levels beside patterns climb soak install uninstall
+.PHONY: plan try test check bench record sign trial skipped levels loads beside patterns climb soak install uninstall
 
 plan: $(PLANNER)
 	@$(PLANNER) < $(SHEET)
@@ -41,8 +41,8 @@ $(LIB): $(PROVED)
 BENCH = cargo run --release --offline --quiet --manifest-path bench/Cargo.toml --
 
 # Times of crews and spare counts beside a hand-written search, then beside MiniSat, clingo and SAT4J, as far as they are
-# there, of jobs under work, of crews by trial, of sheets with skipped steps, and of sheets with other levels; the tables, and
-# target/measured.csv, peers.csv, sign.csv, trial.csv, skipped.csv and levels.csv.
+# there, of jobs under work, of crews by trial, of sheets with skipped steps, of sheets with other levels, and of sheets with
+# rules of kind 5; the tables, and target/measured.csv, peers.csv, sign.csv, trial.csv, skipped.csv, levels.csv and loads.csv.
 bench: $(LIB)
 	@$(call need,cargo)
 	@$(BENCH) measure target/measured.csv
@@ -51,6 +51,7 @@ bench: $(LIB)
 	@$(BENCH) trial target/trial.csv
 	@$(BENCH) skipped target/skipped.csv
 	@$(BENCH) levels target/levels.csv
+	@$(BENCH) loads target/loads.csv
 
 # The same into bench/recorded, and what docs/BENCHMARKS.md shows of it.
 record: $(LIB)
@@ -63,6 +64,7 @@ record: $(LIB)
 	@$(BENCH) trial bench/recorded/trial.csv
 	@$(BENCH) skipped bench/recorded/skipped.csv
 	@$(BENCH) levels bench/recorded/levels.csv
+	@$(BENCH) loads bench/recorded/loads.csv
 	@python3 bench/plot --into docs/BENCHMARKS.md
 
 # Jobs under work alone: openings beside the crew call, signings beside the question whether a plan exists. The times go to
@@ -87,6 +89,11 @@ skipped: $(LIB)
 levels: $(LIB)
 	@$(call need,cargo)
 	@$(BENCH) levels $(or $(OUT),target/levels.csv)
+
+# Crews and spare counts of sheets with rules of kind 5, beside a hand-written search. The times go to OUT.
+loads: $(LIB)
+	@$(call need,cargo)
+	@$(BENCH) loads $(or $(OUT),target/loads.csv)
 
 # Crews and spare counts of the library beside those of another archive of it, OTHER, on practice and hard sheets: the
 # answers have to be the same. The times go to OUT.

@@ -1,4 +1,4 @@
-/* Prints crew, spare count and rule counts of a sheet as the planning program does. No step of it is skipped: those
+/* Prints crew, spare count and rule figures of a sheet as the planning program does. No step of it is skipped: those
  * that remain are all. */
 #ifndef LISTING_H
 #define LISTING_H
@@ -7,7 +7,6 @@
 #include "sheet.h"
 
 #include <inttypes.h>
-#include <stdbool.h>
 #include <stdio.h>
 
 enum { CAP = 2 };
@@ -30,26 +29,42 @@ static const uint8_t *step_of(const uint8_t *crew, int j) {
     return crew + FULMARINVAR_STEP_BYTES * j;
 }
 
-static bool is_among(uint32_t class, const uint32_t *met, int count) {
+/* The different classes of a rule's level among the people given to the steps of its scope, and the load of each: how
+ * many of these steps it holds. */
+struct loads {
+    uint32_t classes[FULMARINVAR_MOST_STEPS];
+    int held[FULMARINVAR_MOST_STEPS];
+    int count;
+};
+
+static void add_load(struct loads *loads, uint32_t class) {
     int k = 0;
-    while (k < count && met[k] != class) {
+    while (k < loads->count && loads->classes[k] != class) {
         k++;
     }
-    return k < count;
+    if (k == loads->count) {
+        loads->classes[loads->count++] = class;
+    }
+    loads->held[k]++;
 }
 
-/* How many different classes of the rule's level are among the people given to the steps of its scope. */
-static int rule_count(const struct sheet *sheet, const uint8_t *rule_card, const uint8_t *crew) {
-    uint32_t met[FULMARINVAR_MOST_STEPS];
-    int count = 0;
+static int largest_load(const struct loads *loads) {
+    int largest = 0;
+    for (int k = 0; k < loads->count; k++) {
+        largest = loads->held[k] > largest ? loads->held[k] : largest;
+    }
+    return largest;
+}
+
+/* The figure of a rule: how many classes there are, or of kind 5 the largest load. */
+static int rule_figure(const struct sheet *sheet, const uint8_t *rule_card, const uint8_t *crew) {
+    struct loads loads = {0};
     for (int j = 0; j < steps_of(sheet); j++) {
-        bool in_scope = get16(rule_card + 6) >> j & 1;
-        uint32_t class = class_of(sheet, get32(step_of(crew, j) + 4), rule_card[4]);
-        if (in_scope && !is_among(class, met, count)) {
-            met[count++] = class;
+        if (get16(rule_card + 6) >> j & 1) {
+            add_load(&loads, class_of(sheet, get32(step_of(crew, j) + 4), rule_card[4]));
         }
     }
-    return count;
+    return rule_card[1] == MAX_LOAD ? largest_load(&loads) : loads.count;
 }
 
 static void print_crew(const struct sheet *sheet, const uint8_t *crew) {
@@ -85,7 +100,7 @@ static int print_listing(const struct sheet *sheet) {
     print_crew(sheet, crew);
     print_spare(spare);
     for (const uint8_t *at = first_card(sheet, RULE); at; at = next_card(sheet, at)) {
-        printf("RULE %d %d %d %d\n", at[1], at[4], at[5], rule_count(sheet, at, crew));
+        printf("RULE %d %d %d %d\n", at[1], at[4], at[5], rule_figure(sheet, at, crew));
     }
     return 0;
 }

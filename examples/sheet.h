@@ -1,5 +1,5 @@
-/* Makes sheets card by card, sheet W and one of version 2, on which the examples work; reads what a host wants of its
- * own sheet. */
+/* Makes sheets card by card, sheet W, one of version 2 and one whose work is spread, on which the examples work; reads
+ * what a host wants of its own sheet. */
 #ifndef SHEET_H
 #define SHEET_H
 
@@ -8,7 +8,7 @@
 #include <string.h>
 
 enum { HEADER = 1, PERSON = 2, STEP = 3, RULE = 4 };
-enum { SAME = 1, DIFFERENT = 2 };
+enum { SAME = 1, DIFFERENT = 2, MAX_LOAD = 5 };
 enum { BY_SHOP = 1, BY_BENCH = 2, BY_PERSON = 3 }; /* the levels of version 1 */
 enum { BY_PAIR = 3, BY_ONE = 4 };                  /* those after the bench where there are pairs */
 
@@ -163,6 +163,22 @@ static inline void sheet_of_pairs(struct sheet *sheet) {
     rule(sheet, SAME, BY_SHOP, 0, second | third);
     rule(sheet, DIFFERENT, BY_ONE, 0, second | third);
     rule(sheet, DIFFERENT, BY_PAIR, 0, first | second);
+}
+
+/* Four steps that all may do: no bench does more than two of them, no shop more than three. */
+static inline void sheet_of_spread(struct sheet *sheet) {
+    const uint16_t all = 15;
+    begin(sheet);
+    person(sheet, 101, 1, 1, all);
+    person(sheet, 102, 1, 1, all);
+    person(sheet, 103, 1, 2, all);
+    person(sheet, 104, 2, 3, all);
+    step(sheet, 10);
+    step(sheet, 20);
+    step(sheet, 30);
+    step(sheet, 40);
+    rule(sheet, MAX_LOAD, BY_BENCH, 2, all);
+    rule(sheet, MAX_LOAD, BY_SHOP, 3, all);
 }
 
 #endif

@@ -1,18 +1,19 @@
 """Tables and plots from recorded files.
 
-usage: python3 bench/plot [--measured CSV] [--peers CSV] [--sign CSV] [--skipped CSV] [--levels CSV] [--trial CSV]
-                          [--patterns CSV] [--walk CSV] [--plots DIR] [--into FILE]
+usage: python3 bench/plot [--measured CSV] [--peers CSV] [--sign CSV] [--skipped CSV] [--levels CSV] [--loads CSV]
+                          [--trial CSV] [--patterns CSV] [--walk CSV] [--plots DIR] [--into FILE]
   --measured  from 'bench measure', bench/recorded/measured.csv unless given
   --peers     from 'bench peers', bench/recorded/peers.csv unless given
   --sign      from 'bench sign', bench/recorded/sign.csv unless given
   --skipped   from 'bench skipped', bench/recorded/skipped.csv unless given
   --levels    from 'bench levels', bench/recorded/levels.csv unless given
+  --loads     from 'bench loads', bench/recorded/loads.csv unless given
   --trial     from 'bench trial', bench/recorded/trial.csv unless given
   --patterns  from 'bench beside' with the library of bench/patterns, bench/recorded/patterns.csv unless given
   --walk      of an earlier build that counted its searches, bench/recorded/walk.csv unless given
   --plots     where the plots go, docs/plots unless given
   --into      a text that has a line '<!-- NAME -->' before and '<!-- end NAME -->' after the place of a table; without it
-              the tables are printed. The names are practice, others, sign, skipped, levels, trial, peers, slower,
+              the tables are printed. The names are practice, others, sign, skipped, levels, loads, trial, peers, slower,
               patterns, walk
 A file that is missing is left out.
 """
@@ -38,6 +39,7 @@ def arguments():
     parser.add_argument("--sign", type=Path, default=ROOT / "bench/recorded/sign.csv")
     parser.add_argument("--skipped", type=Path, default=ROOT / "bench/recorded/skipped.csv")
     parser.add_argument("--levels", type=Path, default=ROOT / "bench/recorded/levels.csv")
+    parser.add_argument("--loads", type=Path, default=ROOT / "bench/recorded/loads.csv")
     parser.add_argument("--trial", type=Path, default=ROOT / "bench/recorded/trial.csv")
     parser.add_argument("--patterns", type=Path, default=ROOT / "bench/recorded/patterns.csv")
     parser.add_argument("--walk", type=Path, default=ROOT / "bench/recorded/walk.csv")
@@ -53,7 +55,7 @@ def record(path):
     return None
 
 
-def made(measured, peers, sign, skipped, levels, trial, patterns, walk):
+def made(measured, peers, sign, skipped, levels, loads, trial, patterns, walk):
     """Tables by name and plots by file."""
     named, drawn = {}, {}
     if measured:
@@ -74,6 +76,8 @@ def made(measured, peers, sign, skipped, levels, trial, patterns, walk):
         named["skipped"] = f"{skipped.origin()}\n\n{tables.skipped(skipped)}"
     if levels:
         named["levels"] = f"{levels.origin()}\n\n{tables.levels(levels)}"
+    if loads:
+        named["loads"] = f"{loads.origin()}\n\n{tables.loads(loads)}"
     if trial:
         named["trial"] = f"{trial.origin()}\n\n{tables.trial(trial)}"
     if patterns:
@@ -95,8 +99,8 @@ def put(text, name, table):
 
 def main():
     given = arguments()
-    files = (given.measured, given.peers, given.sign, given.skipped, given.levels, given.trial, given.patterns, given.walk)
-    named, drawn = made(*map(record, files))
+    planned = (given.measured, given.peers, given.sign, given.skipped, given.levels, given.loads, given.trial)
+    named, drawn = made(*map(record, (*planned, given.patterns, given.walk)))
     given.plots.mkdir(parents=True, exist_ok=True)
     for file, svg in drawn.items():
         if svg:

@@ -263,29 +263,53 @@ def skipped(record):
     return table(heading, lines)
 
 
+def against_hand(record, head, named):
+    """Both calls beside the hand-written search on the same sheets: a line for each part, name and rows."""
+    heading = [*head, "sheets", "with a plan"]
+    for call in ("crew", "spare (cap 3)"):
+        heading += [f"{call}: median", "worst", "by hand: median", "worst", "ratio: median", "p90", "worst"]
+    lines = []
+    for part, name, rows in named:
+        if not rows:
+            continue
+        line = [part, name, str(len(rows)), str(len(with_plan(rows)))]
+        for ours, theirs in (("crew_ns", "first_ns"), ("spare_ns", "hand_spare_ns")):
+            one, other = column(rows, ours), column(rows, theirs)
+            line += [time(value) for value in (median(one), max(one), median(other), max(other))]
+            line += ratios(told(ended(one, other)))
+        lines.append(line)
+    late = sum(math.isinf(micros(row, name)) for row in record.rows for name in ("crew_ns", "spare_ns"))
+    untold = sum(micros(row, name) == 0 for row in record.rows for name in ("crew_ns", "first_ns", "spare_ns", "hand_spare_ns"))
+    return table(heading, lines) + f"\nLate calls of the library: {late}. Times that the clock did not show: {untold}; such a pair has no ratio.\n"
+
+
 LEVELS = {"1": "shops", "2": "shops, benches", "3": "shops, benches, pairs"}
 
 
 def levels(record):
-    """Both calls on practice sheets with each number of class levels, beside the hand-written search on the same sheets."""
-    heading = ["class levels", "rules", "sheets", "with a plan"]
-    for call in ("crew", "spare (cap 3)"):
-        heading += [f"{call}: median", "worst", "by hand: median", "worst", "ratio: median", "p90", "worst"]
-    lines = []
+    """Practice sheets with each number of class levels."""
+    named = []
     for number, word in LEVELS.items():
         *numbered, every = by_rules(record, record.of(class_levels=number))
-        for name, rows in [*numbered, every, *by_plan(*every)]:
-            if not rows:
-                continue
-            line = [word, name, str(len(rows)), str(len(with_plan(rows)))]
-            for ours, theirs in (("crew_ns", "first_ns"), ("spare_ns", "hand_spare_ns")):
-                one, other = column(rows, ours), column(rows, theirs)
-                line += [time(value) for value in (median(one), max(one), median(other), max(other))]
-                line += ratios(told(ended(one, other)))
-            lines.append(line)
-    late = sum(math.isinf(micros(row, name)) for row in record.rows for name in ("crew_ns", "spare_ns"))
-    untold = sum(micros(row, name) == 0 for row in record.rows for name in ("crew_ns", "first_ns", "spare_ns", "hand_spare_ns"))
-    return table(heading, lines) + f"\nLate calls of the library: {late}. Times that the clock did not show: {untold}; such a pair has no ratio.\n"
+        named += [(word, name, rows) for name, rows in [*numbered, every, *by_plan(*every)]]
+    return against_hand(record, ["class levels", "rules"], named)
+
+
+PARTS = {"mixed": "kind 5 among the others", "spread": "steps to be spread", "nested": "over shops as well"}
+
+
+def loads(record):
+    """Sheets with rules of kind 5, by what they are; of those of a part the group is named by what follows the part's name."""
+    named = []
+    for part, word in PARTS.items():
+        rows = record.of(part=part)
+        groups = dict.fromkeys(row["group"] for row in rows)
+        of_groups = [(group.removeprefix(f"{part}-"), record.of(part=part, group=group)) for group in groups]
+        every = ("all of these", rows)
+        named += [(word, name, rows) for name, rows in [*of_groups, every, *by_plan(*every)]]
+    every = ("all of these", record.rows)
+    named += [("all", name, rows) for name, rows in [every, *by_plan(*every)]]
+    return against_hand(record, ["sheets with", "rules, or what is asked"], named)
 
 
 def trial(record):

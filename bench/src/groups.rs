@@ -1,6 +1,6 @@
 //! The groups of sheets that are measured.
 
-use crate::{accidents, hard, randoms};
+use crate::{accidents, hard, loads, randoms};
 use model::job::{Form, Job, MOST_PEOPLE, MOST_STEPS};
 use model::random::Random;
 use model::recipe::practice_job_in;
@@ -28,7 +28,7 @@ pub struct Group {
 
 impl Group {
     /// Sheets that are made from their numbers.
-    fn made(name: &str, job: impl Fn(u32) -> Job + 'static) -> Group {
+    pub fn made(name: &str, job: impl Fn(u32) -> Job + 'static) -> Group {
         Group { name: name.to_string(), sheets: u32::MAX, job: Box::new(job), names: vec![] }
     }
 
@@ -49,7 +49,7 @@ fn practice_group(form: Form, rules: usize) -> Group {
     Group::made(&format!("{PRACTICE}-{rules}"), job)
 }
 
-fn random_group(name: &str, job: fn(&mut Random) -> Job) -> Group {
+pub fn random_group(name: &str, job: fn(&mut Random) -> Job) -> Group {
     Group::made(name, move |number| job(&mut Random::new(number.into())))
 }
 
@@ -91,9 +91,13 @@ pub fn all() -> Vec<Group> {
     groups
 }
 
-/// The groups that are meant; all of them where none is named.
+/// The groups that are meant, those with rules of kind 5 among them; all but these where none is named.
 pub fn meant(names: &[String]) -> Vec<Group> {
-    meant_of(all(), names)
+    let mut groups = all();
+    if !names.is_empty() {
+        groups.extend(loads::groups());
+    }
+    meant_of(groups, names)
 }
 
 /// Those of these groups that are meant.
@@ -136,8 +140,9 @@ mod tests {
 
     #[test]
     fn groups_have_names_of_their_own() {
-        let names: HashSet<String> = all().into_iter().map(|group| group.name).collect();
-        assert_eq!(names.len(), all().len());
+        let every = || all().into_iter().chain(loads::groups());
+        let names: HashSet<String> = every().map(|group| group.name).collect();
+        assert_eq!(names.len(), every().count());
     }
 
     #[test]
@@ -147,5 +152,7 @@ mod tests {
         assert_eq!(names("practice").len(), PRACTICE_RULES.len() + 1);
         assert_eq!(names("eleven-benches"), ["eleven-benches", "eleven-benches-at-once"]);
         assert!(names("tigh").is_empty());
+        assert_eq!(names("spread"), ["spread-pairs", "spread-few", "spread-blocks", "spread-short"]);
+        assert_eq!(meant(&[]).len(), all().len());
     }
 }

@@ -2,6 +2,7 @@
 
 mod absences;
 mod accidents;
+mod against;
 mod asked;
 mod baseline;
 mod beside;
@@ -12,6 +13,7 @@ mod compare;
 mod groups;
 mod hard;
 mod levels;
+mod loads;
 mod measure;
 mod narrow;
 mod options;
@@ -55,6 +57,7 @@ fn run(mut args: Vec<String>) -> io::Result<End> {
         "beside" => beside::order(args).map_or(Ok(End::Misused), |order| beside::run(&order).map(differences)),
         "climb" => climb::order(args).map_or(Ok(End::Misused), |order| climb::run(&order).map(|()| End::Done)),
         "levels" => levels::order(args).map_or(Ok(End::Misused), |order| levels::run(&order).map(differences)),
+        "loads" => loads::order(args).map_or(Ok(End::Misused), |order| loads::run(&order).map(differences)),
         "peers" => peers::order(args).map_or(Ok(End::Misused), |order| peers::run(&order).map(differences)),
         "sign" => sign::order(args).map_or(Ok(End::Misused), |order| sign::run(&order).map(differences)),
         "skipped" => skipped::order(args).map_or(Ok(End::Misused), |order| skipped::run(&order).map(differences)),
@@ -75,6 +78,7 @@ fn main() -> ExitCode {
             let usages = [
                 compare::USAGE,
                 levels::USAGE,
+                loads::USAGE,
                 peers::USAGE,
                 beside::USAGE,
                 sign::USAGE,

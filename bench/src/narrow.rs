@@ -1,6 +1,7 @@
-//! Narrowing of domains: arc consistency on pairs, and what a count forces once it is at one of its ends.
+//! Narrowing of domains: arc consistency on pairs, what a count forces once it is at one of its ends, and what a class that is full
+//! forces.
 
-use crate::problem::{Count, Domains, Pair, Problem};
+use crate::problem::{Count, Domains, Load, Pair, Problem};
 
 /// Everybody who shares a class with somebody of the domain.
 fn classes_of(class: &[u64], mut domain: u64) -> u64 {
@@ -70,6 +71,47 @@ fn narrow_count(problem: &Problem, count: &Count, domains: &mut Domains) -> bool
     true
 }
 
+/// Whether the classes can hold all steps of the scope: each as many as it may, of those that somebody of it can do.
+fn has_room(class: &[u64], load: &Load, domains: &Domains) -> bool {
+    let wanted = load.scope.len();
+    let mut left = load.scope.iter().fold(0, |left, &step| left | domains[step]);
+    let mut room = 0;
+    while left != 0 && room < wanted {
+        let one = class[left.trailing_zeros() as usize];
+        left &= !one;
+        room += load.scope.iter().filter(|&&step| domains[step] & one != 0).count().min(load.most);
+    }
+    room >= wanted
+}
+
+/// A class that holds as many steps as it may takes no other. False where one holds more, or the steps left have no room.
+fn narrow_load(problem: &Problem, load: &Load, domains: &mut Domains) -> bool {
+    let class = &problem.class[load.level];
+    let (mut seen, mut full) = (0, 0);
+    for &step in &load.scope {
+        let Some(one) = single_class(class, domains[step]).filter(|one| seen & one == 0) else {
+            continue;
+        };
+        seen |= one;
+        let held = load.scope.iter().filter(|&&step| domains[step] & !one == 0).count();
+        if held > load.most {
+            return false;
+        }
+        if held == load.most {
+            full |= one;
+        }
+    }
+    for &step in &load.scope {
+        if domains[step] & full != 0 && single_class(class, domains[step]).is_none() {
+            domains[step] &= !full;
+        }
+        if domains[step] == 0 {
+            return false;
+        }
+    }
+    has_room(class, load, domains)
+}
+
 /// Narrows until nothing changes; false where some step has nobody left.
 pub fn narrow(problem: &Problem, domains: &mut Domains) -> bool {
     loop {
@@ -81,6 +123,9 @@ pub fn narrow(problem: &Problem, domains: &mut Domains) -> bool {
             return false;
         }
         if !problem.counts.iter().all(|count| narrow_count(problem, count, domains)) {
+            return false;
+        }
+        if !problem.loads.iter().all(|load| narrow_load(problem, load, domains)) {
             return false;
         }
         if *domains == before {

@@ -1,7 +1,7 @@
-//! The job as the hand-written search holds it: people as bits of a word, and rules as pairs or as counts. Its steps are those
-//! that remain.
+//! The job as the hand-written search holds it: people as bits of a word, and rules as pairs, as counts or as loads. Its steps are
+//! those that remain.
 
-use model::job::{Job, Rule, AT_MOST, DIFFERENT, MOST_CLASS_LEVELS, MOST_PEOPLE, MOST_STEPS, SAME};
+use model::job::{Job, Rule, AT_LEAST, AT_MOST, DIFFERENT, MAX_LOAD, MOST_CLASS_LEVELS, MOST_PEOPLE, MOST_STEPS, SAME};
 
 /// The class levels and the person.
 const MOST_LEVELS: usize = MOST_CLASS_LEVELS + 1;
@@ -24,6 +24,13 @@ pub struct Count {
     pub high: usize,
 }
 
+/// No class holds more than `most` steps of the scope, which has more.
+pub struct Load {
+    pub level: usize,
+    pub scope: Vec<usize>,
+    pub most: usize,
+}
+
 pub struct Problem {
     pub steps: usize,
     pub people: usize,
@@ -32,6 +39,7 @@ pub struct Problem {
     pub class: [[u64; MOST_PEOPLE]; MOST_LEVELS],
     pub pairs: Vec<Pair>,
     pub counts: Vec<Count>,
+    pub loads: Vec<Load>,
 }
 
 /// The place of a level in the arrays.
@@ -39,14 +47,15 @@ fn place(level: u8) -> usize {
     usize::from(level) - 1
 }
 
-/// Of a rule left with so many steps, two or more.
+/// The number of classes that a rule of kinds 1 to 4 asks for, left with so many steps, two or more.
 fn bounds(rule: &Rule, size: usize) -> (usize, usize) {
     let limit = size.min(rule.limit.into());
     match rule.kind {
         SAME => (1, 1),
         DIFFERENT => (2, 2),
         AT_MOST => (1, limit),
-        _ => (limit, size),
+        AT_LEAST => (limit, size),
+        kind => panic!("kind {kind} does not ask for a number of classes"),
     }
 }
 
@@ -76,6 +85,7 @@ impl Problem {
             class: [[0; MOST_PEOPLE]; MOST_LEVELS],
             pairs: vec![],
             counts: vec![],
+            loads: vec![],
         };
         for (p, person) in job.people.iter().enumerate() {
             for (may, step) in problem.may.iter_mut().zip(&remaining) {
@@ -95,13 +105,29 @@ impl Problem {
 
     /// A rule over two steps is a pair whatever its kind; one that every plan meets is left out.
     fn add(&mut self, rule: &Rule, scope: Vec<usize>) {
+        match (rule.kind, scope.len()) {
+            (_, ..2) => {}
+            (MAX_LOAD, _) => self.add_load(rule, scope),
+            _ => self.add_count(rule, scope),
+        }
+    }
+
+    fn add_count(&mut self, rule: &Rule, scope: Vec<usize>) {
         let level = place(rule.level);
         let size = scope.len();
         match (bounds(rule, size), size) {
-            (_, ..2) => {}
             ((1, high), _) if high == size => {}
             ((low, _), 2) => self.pairs.push(Pair { level, same: low == 1, steps: [scope[0], scope[1]] }),
             ((low, high), _) => self.counts.push(Count { level, scope, low, high }),
+        }
+    }
+
+    fn add_load(&mut self, rule: &Rule, scope: Vec<usize>) {
+        let (level, most) = (place(rule.level), rule.limit.into());
+        match scope[..] {
+            _ if most >= scope.len() => {}
+            [one, other] => self.pairs.push(Pair { level, same: false, steps: [one, other] }),
+            _ => self.loads.push(Load { level, scope, most }),
         }
     }
 }

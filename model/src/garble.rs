@@ -1,9 +1,9 @@
 //! Random sheets: good ones, good ones that are damaged, and garbage.
 
 use crate::builder::Draft;
-use crate::card::{CARD, CLASSES, CLASS_LEVELS, HEADER, MOST_CARDS, PERSON, STEP};
+use crate::card::{CARD, CLASSES, CLASS_LEVELS, HEADER, MOST_CARDS, PERSON, RULE, STEP};
 use crate::classes::any_form;
-use crate::job::{Job, MOST_PEOPLE, MOST_RULES, MOST_STEPS};
+use crate::job::{Job, MAX_LOAD, MOST_PEOPLE, MOST_RULES, MOST_STEPS};
 use crate::jobs::{good_job, job_of, laid, with_skipped};
 use crate::random::Random;
 
@@ -82,7 +82,7 @@ fn damage(random: &mut Random, draft: Draft) -> Draft {
     if draft.cards() == 0 {
         return draft;
     }
-    match random.below(21) {
+    match random.below(22) {
         0..=4 => changed_byte(random, draft),
         5..=6 => redirected(random, draft),
         7 => swapped_links(random, draft),
@@ -94,6 +94,7 @@ fn damage(random: &mut Random, draft: Draft) -> Draft {
         15 => marked_step(random, draft),
         16..=17 => other_header(random, draft),
         18..=19 => other_class(random, draft),
+        20 => other_rule(random, draft),
         _ => small_field(random, draft),
     }
 }
@@ -211,6 +212,18 @@ fn marked_step(random: &mut Random, draft: Draft) -> Draft {
     };
     let mark = [0, 1, 1, 2, 3, 255][random.below(6)];
     draft.byte(card, 1, mark)
+}
+
+/// A rule of another kind, one that there is or one beyond, or with a limit at an end of its range or outside.
+fn other_rule(random: &mut Random, draft: Draft) -> Draft {
+    let Some(card) = any_of_kind(random, &draft, RULE) else {
+        return draft;
+    };
+    if random.once_in(2) {
+        return draft.byte(card, 1, random.within(0, usize::from(MAX_LOAD) + 2) as u8);
+    }
+    let size = word_at(&draft, card, 6).count_ones() as u8;
+    draft.byte(card, 5, [0, 1, size, size + 1][random.below(4)])
 }
 
 /// Another version, another number of class levels, both, or something after them.

@@ -12,6 +12,10 @@ pub const SAME: u8 = 1;
 pub const DIFFERENT: u8 = 2;
 pub const AT_MOST: u8 = 3;
 pub const AT_LEAST: u8 = 4;
+pub const MAX_LOAD: u8 = 5;
+
+/// The kinds that have a limit; the others are over two steps, and their limit is zero.
+pub const LIMITED: [u8; 3] = [AT_MOST, AT_LEAST, MAX_LOAD];
 
 /// The levels of a version 1 sheet.
 pub const BY_SHOP: u8 = 1;
@@ -62,9 +66,8 @@ pub struct Job {
     pub rules: Vec<Rule>,
 }
 
-/// Kinds 3 and 4 count and have a limit; 1 and 2 are over two steps, and their limit is zero.
 pub fn has_limit(kind: u8) -> bool {
-    kind >= AT_MOST
+    LIMITED.contains(&kind)
 }
 
 /// The steps of a mask: of a scope, or of what somebody is permitted.

@@ -2,7 +2,9 @@
 
 use crate::builder::{lay, lay_at, rule, skipping, step, Draft};
 use crate::classes::{any_form, Scattered, Shared};
-use crate::job::{has_limit, Form, Job, Person, Rule, AT_LEAST, AT_MOST, MOST_PEOPLE, MOST_RULES, MOST_STEPS, SAME};
+use crate::job::{
+    has_limit, Form, Job, Person, Rule, AT_LEAST, AT_MOST, LIMITED, MAX_LOAD, MOST_PEOPLE, MOST_RULES, MOST_STEPS, SAME,
+};
 use crate::plans::{is_met, plan_by, plans_of, Plan, MOST_PLANS};
 use crate::random::Random;
 use std::collections::HashSet;
@@ -32,7 +34,7 @@ fn tags(random: &mut Random, count: usize) -> Vec<u32> {
 }
 
 /// The mask of `size` of `steps` steps.
-fn scope(random: &mut Random, steps: usize, size: usize) -> u16 {
+pub fn scope(random: &mut Random, steps: usize, size: usize) -> u16 {
     let chosen = random.order(steps);
     chosen[..size].iter().map(|s| 1 << (s - 1)).sum()
 }
@@ -44,12 +46,17 @@ pub fn any_level(random: &mut Random, form: Form) -> u8 {
 
 /// One of the kinds that have a limit.
 pub fn any_count(random: &mut Random) -> u8 {
-    random.within(AT_MOST.into(), AT_LEAST.into()) as u8
+    LIMITED[random.below(LIMITED.len())]
 }
 
 /// A rule of any kind and level over some of the steps, at least two.
 pub fn random_rule(random: &mut Random, form: Form, steps: usize) -> Rule {
-    let kind = random.within(SAME.into(), AT_LEAST.into()) as u8;
+    rule_up_to(random, MAX_LOAD, form, steps)
+}
+
+/// The same of a kind up to the given one.
+pub fn rule_up_to(random: &mut Random, most: u8, form: Form, steps: usize) -> Rule {
+    let kind = random.within(SAME.into(), most.into()) as u8;
     let level = any_level(random, form);
     if !has_limit(kind) {
         return rule(kind, level, 0, scope(random, steps, 2));
@@ -180,8 +187,9 @@ fn planned(random: &mut Random, mut job: Job, rules: usize) -> Job {
             job.people[person].permitted |= 1 << step;
         }
     }
-    // The draw ends: there are no more classes in a scope than steps, so an "at most" whose limit is all its steps is always
-    // met, and at least one rule in 48 is such: one kind of four, one limit of at most twelve.
+    // The draw ends: there are no more classes in a scope than steps, and none holds more than all of them, so an "at most" or a
+    // load whose limit is all its steps is always met, and at least one rule in 30 is such: two kinds of five, one limit of at
+    // most twelve.
     let any_rule = repeat_with(|| random_rule(random, job.form, steps));
     let rules = any_rule.filter(|rule| is_met(&job, rule, &plan)).take(rules).collect();
     Job { rules, ..job }
@@ -214,15 +222,15 @@ pub fn last_rule_job(random: &mut Random) -> Job {
     Job { rules, ..job }
 }
 
-/// A job with few people and few steps, and at each level two rules that count: people are in many classes and permitted much,
-/// so that counts lie on both sides of limits.
+/// A job with few people and few steps, and at each level a rule of each kind that has a limit: people are in many classes and
+/// permitted much, so that figures lie on both sides of limits.
 pub fn counting_job(random: &mut Random) -> Job {
     let (form, people, steps) = (any_form(random), random.within(3, 6), random.within(3, 5));
     let mut job = job_of(random, form, people, steps, 0);
     job.people.iter_mut().for_each(|person| person.permitted |= random.below(1 << steps) as u16);
-    for (level, kind) in (1..=form.person_level()).flat_map(|level| [AT_MOST, AT_LEAST].map(|kind| (level, kind))) {
+    for (level, kind) in (1..=form.person_level()).flat_map(|level| LIMITED.map(|kind| (level, kind))) {
         let wide = random.within(2, steps);
-        // A low one for at least and a high one for at most leave plans.
+        // A low one for at least and a high one for the others leave plans.
         let limit = match kind {
             _ if random.once_in(3) => random.within(1, wide),
             AT_LEAST => 1,
@@ -282,7 +290,7 @@ pub fn laid(random: &mut Random, job: &Job) -> Draft {
 #[cfg(test)]
 mod tests {
     use super::*;
-    use crate::plans::{all_plans, first_plan, is_small, spare};
+    use crate::plans::{all_plans, figure, first_plan, is_small, spare};
     use crate::reader::read;
     use std::collections::BTreeSet;
     use std::iter::repeat;
@@ -301,10 +309,41 @@ mod tests {
     #[test]
     fn rules_that_are_always_met_are_drawn() {
         let mut random = Random::new(7);
-        let at_most_all = |rule: Rule| rule.kind == AT_MOST && u32::from(rule.limit) == rule.scope.count_ones();
+        let is_met_by_all = |rule: &Rule| rule.kind != AT_LEAST && u32::from(rule.limit) == rule.scope.count_ones();
         for (form, steps) in Form::ALL.into_iter().flat_map(|form| (2..=MOST_STEPS).map(move |steps| (form, steps))) {
-            assert!((0..1_000).any(|_| at_most_all(random_rule(&mut random, form, steps))), "{form}, {steps} steps");
+            let rules = (0..1_000).map(|_| random_rule(&mut random, form, steps));
+            let kinds: BTreeSet<u8> = rules.filter(is_met_by_all).map(|rule| rule.kind).collect();
+            assert!(kinds.into_iter().eq([AT_MOST, MAX_LOAD]), "{form}, {steps} steps");
         }
+    }
+
+    #[test]
+    fn each_kind_is_drawn_as_often_as_the_others() {
+        let mut random = Random::new(16);
+        let rules: Vec<Rule> = (0..10_000).map(|_| random_rule(&mut random, Form::First, MOST_STEPS)).collect();
+        for kind in SAME..=MAX_LOAD {
+            let drawn = rules.iter().filter(|rule| rule.kind == kind).count();
+            assert!((1_850..=2_150).contains(&drawn), "{drawn} of kind {kind}");
+        }
+        let limited: Vec<u8> = (0..3_000).map(|_| any_count(&mut random)).collect();
+        assert!(limited.iter().all(|kind| has_limit(*kind)));
+        for kind in LIMITED {
+            let drawn = limited.iter().filter(|limited| **limited == kind).count();
+            assert!((900..=1_100).contains(&drawn), "{drawn} of kind {kind}");
+        }
+    }
+
+    #[test]
+    fn planned_jobs_have_loads_that_are_full_and_loads_that_are_not() {
+        let mut random = Random::new(17);
+        let mut met = BTreeSet::new();
+        for _ in 0..200 {
+            let job = planned_job(&mut random, Form::First, 4, 4, 7);
+            let plan = first_plan(&job, &[]).expect("has a plan");
+            let loads = job.rules.iter().filter(|rule| rule.kind == MAX_LOAD);
+            met.extend(loads.map(|rule| (rule.level, figure(&job, rule, &plan) < rule.limit.into())));
+        }
+        assert_eq!(met.len(), 6, "{met:?}");
     }
 
     #[test]

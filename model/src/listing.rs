@@ -1,7 +1,7 @@
-//! What the planning program prints for a sheet: its crew, its spare count and the count of each rule, or a refusal.
+//! What the planning program prints for a sheet: its crew, its spare count and the figure of each rule, or a refusal.
 
 use crate::job::{Job, Rule};
-use crate::plans::{count, crew, first_plan, is_small, spare, Spare};
+use crate::plans::{crew, figure, first_plan, is_small, spare, Spare};
 use crate::reader::read;
 use crate::refusal::{refuse, Refusal, NO_PLAN};
 
@@ -25,11 +25,12 @@ fn spare_lines(job: &Job, spare: &Spare) -> String {
     format!("{counted}AWAY{tags}\n")
 }
 
-/// "A line for each rule, in chain order: `RULE`, its kind, level, limit and count", the limit "as the card has" it.
+/// "A line for each rule, in chain order: `RULE`, its kind, level, limit and count", the limit "as the card has" it; of kind 5
+/// "the RULE figure is the largest number held by one class".
 pub fn rule_lines(job: &Job, plan: &[Option<usize>]) -> String {
     let line = |rule: &Rule| {
         let Rule { kind, level, limit, .. } = rule;
-        format!("RULE {kind} {level} {limit} {}\n", count(job, rule, plan))
+        format!("RULE {kind} {level} {limit} {}\n", figure(job, rule, plan))
     };
     job.rules.iter().map(line).collect()
 }
@@ -65,7 +66,7 @@ pub fn listing(sheet: &[u8]) -> Option<String> {
 mod tests {
     use super::*;
     use crate::builder::{job_w, lay, one_by_one, person, plain, plain_job, rule, sheet_w, skipping, w_and};
-    use crate::job::{AT_LEAST, AT_MOST, BY_BENCH, BY_PERSON, BY_SHOP, MOST_RULES};
+    use crate::job::{AT_LEAST, AT_MOST, BY_BENCH, BY_PERSON, BY_SHOP, MAX_LOAD, MOST_RULES};
 
     fn listed(job: &Job) -> String {
         listing(&lay(job).bytes).expect("a small job")
@@ -116,7 +117,7 @@ mod tests {
     }
 
     #[test]
-    fn a_count_is_the_crews_and_not_the_limit() {
+    fn a_figure_is_the_crews_and_not_the_limit() {
         // Each step has one person: two share a bench, and the third sits in the same shop.
         let mut job = plain_job(3, 3, 0);
         job.people = vec![person(1, 1, 1, 1), person(2, 1, 1, 2), person(3, 1, 2, 4)];
@@ -125,6 +126,8 @@ mod tests {
         assert_eq!(rules(&job), ["3 1 3 1", "3 2 3 2", "3 3 3 3"]);
         job.rules = levels.map(|level| rule(AT_LEAST, level, 1, 6)).into();
         assert_eq!(rules(&job), ["4 1 1 1", "4 2 1 2", "4 3 1 2"]);
+        job.rules = levels.map(|level| rule(MAX_LOAD, level, 3, 7)).into();
+        assert_eq!(rules(&job), ["5 1 3 3", "5 2 3 2", "5 3 3 1"]);
     }
 
     #[test]
@@ -139,12 +142,12 @@ mod tests {
     #[test]
     fn the_steps_that_remain_are_listed_and_limits_as_the_cards_have_them() {
         let mut job = job_w();
-        job.rules.push(rule(AT_LEAST, BY_PERSON, 3, 7));
+        job.rules.extend([AT_LEAST, MAX_LOAD].map(|kind| rule(kind, BY_PERSON, 3, 7)));
         let crew = "PLAN 2\n20 101\n30 102\nSPARE 1 OF 2\nAWAY 101 102\n";
-        let rules = "RULE 1 2 0 1\nRULE 1 1 0 1\nRULE 2 3 0 2\nRULE 4 3 3 2\n";
+        let rules = "RULE 1 2 0 1\nRULE 1 1 0 1\nRULE 2 3 0 2\nRULE 4 3 3 2\nRULE 5 3 3 1\n";
         assert_eq!(listed(&skipping(job.clone(), [0])), format!("{crew}{rules}"));
         let crew = "PLAN 1\n10 101\nSPARE 1 OF 2\nAWAY 101 102\n";
-        let rules = "RULE 1 2 0 1\nRULE 1 1 0 0\nRULE 2 3 0 0\nRULE 4 3 3 1\n";
+        let rules = "RULE 1 2 0 1\nRULE 1 1 0 0\nRULE 2 3 0 0\nRULE 4 3 3 1\nRULE 5 3 3 1\n";
         assert_eq!(listed(&skipping(job, [1, 2])), format!("{crew}{rules}"));
     }
 

@@ -1,6 +1,6 @@
 //! Valid plans and the spare count, straight from the papers: every plan is tried. For small jobs only.
 
-use crate::job::{Job, Rule, AT_MOST, DIFFERENT, SAME};
+use crate::job::{Job, Rule, AT_LEAST, AT_MOST, DIFFERENT, MAX_LOAD, SAME};
 
 /// For each step of the chain the person who does it, by the place in crew order; nobody for a skipped step.
 pub type Plan = Vec<Option<usize>>;
@@ -35,26 +35,46 @@ pub fn crew(job: &Job, plan: &[Option<usize>]) -> Vec<(u32, u32)> {
     given.map(|(step, person)| (step.tag, job.people[person].tag)).collect()
 }
 
-/// "The number of different classes of its level among the people given to the steps of its scope."
-pub fn count(job: &Job, rule: &Rule, plan: &[Option<usize>]) -> usize {
+/// The load of each class of the rule's level: how many steps of the scope it holds. Classes that hold none are left out.
+fn loads(job: &Job, rule: &Rule, plan: &[Option<usize>]) -> Vec<usize> {
     let given = job.left(rule.scope).filter_map(|step| plan[step]);
     let mut classes: Vec<u32> = given.map(|person| job.class(person, rule.level)).collect();
     classes.sort_unstable();
-    classes.dedup();
-    classes.len()
+    classes.chunk_by(|a, b| a == b).map(|held| held.len()).collect()
 }
 
-/// What a rule asks for is asked of its count, and of how many steps are left to it.
+/// "The number of different classes of its level among the people given to the steps of its scope."
+pub fn count(job: &Job, rule: &Rule, plan: &[Option<usize>]) -> usize {
+    loads(job, rule, plan).len()
+}
+
+/// "The largest number held by one class, 0 if none remain."
+pub fn largest_load(job: &Job, rule: &Rule, plan: &[Option<usize>]) -> usize {
+    loads(job, rule, plan).into_iter().max().unwrap_or(0)
+}
+
+/// What a rule's kind asks about, and what its RULE line ends with.
+pub fn figure(job: &Job, rule: &Rule, plan: &[Option<usize>]) -> usize {
+    match rule.kind {
+        SAME | DIFFERENT | AT_MOST | AT_LEAST => count(job, rule, plan),
+        MAX_LOAD => largest_load(job, rule, plan),
+        kind => panic!("no rule has kind {kind}"),
+    }
+}
+
+/// What a rule asks for is asked of its figure, and of how many steps are left to it.
 pub fn is_met(job: &Job, rule: &Rule, plan: &[Option<usize>]) -> bool {
-    let (count, left) = (count(job, rule, plan), job.left(rule.scope).count());
+    let (figure, left) = (figure(job, rule, plan), job.left(rule.scope).count());
     match rule.kind {
         // "A same or different rule left with fewer than two steps is met."
         SAME | DIFFERENT if left < 2 => true,
-        SAME => count == 1,
-        DIFFERENT => count == 2,
-        AT_MOST => count <= rule.limit.into(),
+        SAME => figure == 1,
+        DIFFERENT => figure == 2,
         // "An at-least limit becomes the smaller of itself and the steps left."
-        _ => count >= left.min(rule.limit.into()),
+        AT_LEAST => figure >= left.min(rule.limit.into()),
+        // "No class of the level holds more than the limit of the steps in scope."
+        AT_MOST | MAX_LOAD => figure <= rule.limit.into(),
+        kind => panic!("no rule has kind {kind}"),
     }
 }
 
@@ -150,7 +170,7 @@ pub fn spare(job: &Job, cap: usize) -> Option<Spare> {
 mod tests {
     use super::*;
     use crate::builder::{job_w, job_w_in, person, person_in, plain_job, rule, skipping, step};
-    use crate::job::{Form, AT_LEAST, BY_BENCH, BY_PERSON, BY_SHOP};
+    use crate::job::{Form, BY_BENCH, BY_PERSON, BY_SHOP};
 
     #[test]
     fn w_is_planned_as_printed() {
@@ -268,8 +288,9 @@ mod tests {
         let different = rule(DIFFERENT, BY_PERSON, 0, 0b0110);
         let at_most = rule(AT_MOST, BY_PERSON, 1, 0b0111);
         let at_least = rule(AT_LEAST, BY_PERSON, 3, 0b0111);
-        // The steps skipped, then the first plan, and the count of the rule in it.
-        let stated: [(&Rule, &[usize], &[usize], usize); 15] = [
+        let max_load = rule(MAX_LOAD, BY_PERSON, 1, 0b0111);
+        // The steps skipped, then the first plan, and the figure of the rule in it.
+        let stated: [(&Rule, &[usize], &[usize], usize); 20] = [
             (&same, &[], &[1, 1, 1, 0], 1),
             (&same, &[3], &[1, 1, 1], 1),
             (&same, &[0], &[1, 1, 0], 1),
@@ -285,12 +306,17 @@ mod tests {
             (&at_least, &[0], &[1, 2, 0], 2),
             (&at_least, &[0, 1], &[1, 0], 1),
             (&at_least, &[0, 1, 2], &[0], 0),
+            (&max_load, &[], &[0, 1, 2, 0], 1),
+            (&max_load, &[3], &[0, 1, 2], 1),
+            (&max_load, &[0], &[1, 2, 0], 1),
+            (&max_load, &[0, 1], &[1, 0], 1),
+            (&max_load, &[0, 1, 2], &[0], 0),
         ];
-        for (rule, skipped, people, counted) in stated {
+        for (rule, skipped, people, shown) in stated {
             let job = skipping(uneven_job(vec![rule.clone()]), skipped.iter().copied());
             assert_eq!(first_people(&job).as_deref(), Some(people), "{job:?}");
             let plan = plan_by(&job, people.iter().copied());
-            assert_eq!(count(&job, rule, &plan), counted, "{job:?}");
+            assert_eq!(figure(&job, rule, &plan), shown, "{job:?}");
         }
     }
 

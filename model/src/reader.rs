@@ -2,7 +2,7 @@
 
 use crate::card::{CARD, CLASSES, CLASS_LEVELS, HEADER, MOST_BYTES, PERSON, RULE, SKIPPED, STEP, VERSION_1, VERSION_2};
 use crate::job::{
-    Form, Job, Person, Rule, Step, AT_LEAST, AT_MOST, DIFFERENT, MOST_CLASS_LEVELS, MOST_PEOPLE, MOST_RULES,
+    Form, Job, Person, Rule, Step, AT_LEAST, AT_MOST, DIFFERENT, MAX_LOAD, MOST_CLASS_LEVELS, MOST_PEOPLE, MOST_RULES,
     MOST_STEPS, SAME,
 };
 use crate::refusal::{
@@ -57,14 +57,14 @@ fn step(card: &[u8]) -> Option<Step> {
     (found.tag != 0 && marked && zero(&card[8..])).then_some(found)
 }
 
-/// Rule kinds 1 and 2 have two steps in scope and limit 0; 3 and 4 two or more, and limit 1 to their number. The person is "the
-/// highest a rule may name".
+/// Rule kinds 1 and 2 have two steps in scope and limit 0; 3, 4 and 5 two or more, and limit 1 to their number. The person is
+/// "the highest a rule may name".
 fn rule(card: &[u8], form: Form, steps: usize) -> Option<Rule> {
     let found = Rule { kind: card[1], level: card[4], limit: card[5], scope: word(card, 6) };
     let size = found.scope.count_ones();
     let sized = match found.kind {
         SAME | DIFFERENT => size == 2 && found.limit == 0,
-        AT_MOST | AT_LEAST => size >= 2 && found.limit >= 1 && u32::from(found.limit) <= size,
+        AT_MOST | AT_LEAST | MAX_LOAD => size >= 2 && found.limit >= 1 && u32::from(found.limit) <= size,
         _ => false,
     };
     let leveled = (1..=form.person_level()).contains(&found.level);

@@ -1,5 +1,5 @@
 //! What the program that tries every plan prints for a sheet: how many plans it has tried, each of them where the sheet has few,
-//! then the crew and the count of each rule, or a refusal.
+//! then the crew and the figure of each rule, or a refusal.
 
 use crate::job::Job;
 use crate::listing::{crew_lines, refusal_line, rule_lines};

@@ -1,6 +1,7 @@
-//! Sheets whose crew, spare count and rule counts were worked out by hand: with skipped steps, and with other levels.
+//! Sheets whose crew, spare count and rule figures were worked out by hand: with skipped steps, with other levels, and with rules
+//! of kind 5.
 
-use crate::{levels, skipped};
+use crate::{levels, loads, skipped};
 use model::job::Job;
 
 pub struct Sheet {
@@ -19,20 +20,22 @@ pub struct Planned {
     /// The spare count with cap 2, and who is away where it is below the cap.
     pub count: usize,
     pub away: Vec<u32>,
-    /// For each rule its count.
+    /// For each rule its figure.
     pub figures: Vec<usize>,
 }
 
 pub fn all() -> Vec<Sheet> {
     let mut sheets = skipped::all();
     sheets.extend(levels::all());
+    sheets.extend(loads::all());
     sheets
 }
 
-/// The same, and those with skipped steps in version 2 as well: more than one wants to read.
+/// The same, and those of version 1 in version 2 as well: more than one wants to read.
 pub fn in_every_form() -> Vec<Sheet> {
     let mut sheets = all();
     sheets.extend(levels::of_skipped());
+    sheets.extend(levels::of_loads());
     sheets
 }
 
@@ -43,7 +46,7 @@ pub fn planned(crew: &[(u32, u32)], count: usize, away: &[u32], figures: &[usize
 #[cfg(test)]
 mod tests {
     use super::*;
-    use model::plans::{count, crew, first_plan, is_small, spare};
+    use model::plans::{crew, figure, first_plan, is_small, spare};
 
     #[test]
     fn the_brute_force_finds_what_was_worked_out() {
@@ -56,7 +59,7 @@ mod tests {
                 continue;
             };
             assert_eq!(crew(&job, &plan), planned.crew, "{name}");
-            let figures: Vec<usize> = job.rules.iter().map(|rule| count(&job, rule, &plan)).collect();
+            let figures: Vec<usize> = job.rules.iter().map(|rule| figure(&job, rule, &plan)).collect();
             assert_eq!(figures, planned.figures, "{name}");
             let found = spare(&job, 2).expect("there is a plan");
             let away: Vec<u32> = found.away.iter().map(|&person| job.people[person].tag).collect();

@@ -1,5 +1,5 @@
-//! The file from which the trials in C take their cases: the paper's sheets, those with skipped steps and those of version 2, W
-//! with every area up to that of its crew, also with steps skipped, then W cut short and W damaged, in every form.
+//! The file from which the trials in C take their cases: the paper's sheets, those with skipped steps, with rules of kind 5 and of
+//! version 2, W with every area up to that of its crew, also with steps skipped, then W cut short and W damaged, in every form.
 //!
 //! All numbers have their low byte first. First the sheets: how many (u16), and for each its length (u16) and bytes.
 //! Then the cases: how many (u32), and for each

@@ -1,8 +1,8 @@
 //! Sheets of version 2, and what was worked out for them by hand: W with one, two and three class levels, a rule at each level of
-//! each, and those with skipped steps in every form that has the same plans.
+//! each, and those with skipped steps and with rules of kind 5 in every form that has the same plans.
 
 use crate::by_hand::{planned, Planned, Sheet};
-use crate::skipped;
+use crate::{loads, skipped};
 use model::builder::{job_w_in, person_in, rule, skipping, step};
 use model::forms::in_version_2;
 use model::job::{Form, Job, Rule, AT_LEAST, DIFFERENT, MOST_CLASS_LEVELS, SAME};
@@ -95,19 +95,24 @@ fn of_each_level(levels: u8) -> Vec<Sheet> {
     sheets
 }
 
-/// The sheets with skipped steps, in every form of version 2 that has the same plans.
+/// The version 1 sheet in every form of version 2 that has the same plans.
+fn variants(held: Sheet) -> impl Iterator<Item = Sheet> {
+    let Sheet { name, job, remaining, planned } = held;
+    let named = move |variant: &str| format!("{name}, {variant}");
+    in_version_2(&job).into_iter().map(move |variant| Sheet {
+        name: named(variant.name),
+        job: variant.job,
+        remaining,
+        planned: planned.clone(),
+    })
+}
+
 pub fn of_skipped() -> Vec<Sheet> {
-    let variants = |held: Sheet| {
-        let Sheet { name, job, remaining, planned } = held;
-        let named = move |variant: &str| format!("{name}, {variant}");
-        in_version_2(&job).into_iter().map(move |variant| Sheet {
-            name: named(variant.name),
-            job: variant.job,
-            remaining,
-            planned: planned.clone(),
-        })
-    };
     skipped::all().into_iter().flat_map(variants).collect()
+}
+
+pub fn of_loads() -> Vec<Sheet> {
+    loads::of_version_1().into_iter().flat_map(variants).collect()
 }
 
 #[cfg(test)]
@@ -115,8 +120,10 @@ mod tests {
     use super::*;
 
     #[test]
-    fn every_form_of_version_2_is_among_those_with_skipped_steps() {
-        let sheets = of_skipped();
-        assert!(each_number().all(|levels| sheets.iter().filter(|sheet| sheet.job.form == second(levels)).count() > 15));
+    fn every_form_of_version_2_is_among_those_with_skipped_steps_and_those_with_loads() {
+        for (sheets, least) in [(of_skipped(), 15), (of_loads(), 10)] {
+            let of_form = |levels| sheets.iter().filter(move |sheet| sheet.job.form == second(levels)).count();
+            assert!(each_number().all(|levels| of_form(levels) > least));
+        }
     }
 }

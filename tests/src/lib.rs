@@ -8,6 +8,7 @@ pub mod files;
 pub mod forms;
 pub mod levels;
 pub mod listings;
+pub mod loads;
 pub mod numbers;
 pub mod order;
 pub mod records;

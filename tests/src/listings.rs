@@ -14,10 +14,11 @@ pub struct Stored {
 
 pub type Named = (String, Vec<u8>);
 
-/// The planning program on the paper's sheets, and on sheets with skipped steps and with other levels.
+/// The planning program on the paper's sheets, and on sheets with skipped steps, with other levels and with rules of kind 5.
 pub const PLANNER: Stored = Stored { file: "tests/listings.txt", listing: model::listing::listing, sheets: to_plan };
 
-/// The program that tries every plan on the paper's sheets, which have few, on sheets with more, with skipped steps and with other levels.
+/// The program that tries every plan on the paper's sheets, which have few, on sheets with more, with skipped steps, with other
+/// levels and with rules of kind 5.
 pub const BY_TRIAL: Stored = Stored { file: "tests/by_trial.txt", listing: model::trial::listing, sheets: to_try };
 
 impl Stored {
@@ -155,7 +156,7 @@ mod tests {
     }
 
     #[test]
-    fn sheets_with_skipped_steps_and_other_levels_are_listed_as_was_worked_out_by_hand() {
+    fn sheets_that_were_worked_out_by_hand_are_listed_so() {
         let file = PLANNER.text();
         for sheet in by_hand::all() {
             let Some(planned) = sheet.planned else {
@@ -183,7 +184,7 @@ mod tests {
     #[test]
     fn trials_are_those_that_were_worked_out_by_hand() {
         // The first lines, and how many TRY lines there are.
-        let stated: [(&str, &[&str], usize); 22] = [
+        let stated: [(&str, &[&str], usize); 25] = [
             ("sheet 1, W", &["TRIED 2", "TRY 101 101 101 BREAKS 3", "TRY 101 101 102 VALID"], 2),
             (
                 "sheet 4, W and a rule 2,1,0,6",
@@ -224,6 +225,15 @@ mod tests {
             ("skipped, all of 12 steps but the last", &["TRIED 1", "TRY 1001 VALID", "PLAN 1", "2012 1001"], 1),
             ("1,000 plans, ten people, three of 12 steps left", &["TRIED 13", "TRY 1001 1001 1001 BREAKS 1"], 13),
             ("1,024 plans, four people, five of 12 steps left", &["TRIED 28", "PLAN 5"], 0),
+            (
+                "loads, W and 5,2,2,7",
+                &["TRIED 3", "TRY 101 101 101 BREAKS 3", "TRY 101 101 102 BREAKS 4", "TRY 101 101 103 VALID"],
+                3,
+            ),
+            // 0022 in base four is 10.
+            ("loads, two a bench", &["TRIED 11", "TRY 101 101 101 101 BREAKS 1", "TRY 101 101 101 102 BREAKS 1"], 11),
+            // 000000111111 in base two is 63.
+            ("loads, six of 12 steps a bench", &["TRIED 64", "PLAN 12"], 0),
         ];
         let file = BY_TRIAL.text();
         for (name, first, trials) in stated {
@@ -236,6 +246,7 @@ mod tests {
             ("78,125 plans, a shop of five, two shops at work", 78_125),
             ("64 people, two steps, nobody permitted the last", 4_096),
             ("two people, 12 steps, nobody permitted the last", 4_096),
+            ("loads, five of 12 steps a bench", 4_096),
         ] {
             let lines = format!("TRIED {plans}\nREFUSED 13 CARD 0\n");
             assert_eq!(under(&file, name), Some(lines.as_str()), "{name}");

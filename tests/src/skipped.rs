@@ -4,7 +4,8 @@
 use crate::by_hand::{planned, Planned, Sheet};
 use model::builder::{job_w, one_by_one, person, plain_job, rule, skipping, step};
 use model::job::{
-    Job, Rule, AT_LEAST, AT_MOST, BY_BENCH, BY_PERSON, BY_SHOP, DIFFERENT, MOST_PEOPLE, MOST_RULES, MOST_STEPS, SAME,
+    Job, Rule, AT_LEAST, AT_MOST, BY_BENCH, BY_PERSON, BY_SHOP, DIFFERENT, MAX_LOAD, MOST_PEOPLE, MOST_RULES,
+    MOST_STEPS, SAME,
 };
 use model::reader::read;
 
@@ -41,7 +42,7 @@ fn of_w() -> Vec<Sheet> {
     ]
 }
 
-/// An at-least limit that is lowered, and two rules that leave no plan as long as both of their steps remain.
+/// An at-least limit that is lowered, and rules that leave no plan as long as enough of their steps remain.
 fn of_w_and_a_rule() -> Vec<Sheet> {
     let w = |name: &str, more: Rule, skipped: &[usize], planned| {
         let mut job = job_w();
@@ -51,6 +52,7 @@ fn of_w_and_a_rule() -> Vec<Sheet> {
     let three = || rule(AT_LEAST, BY_PERSON, 3, 7);
     let two_shops = || rule(DIFFERENT, BY_SHOP, 0, 6);
     let one = || rule(AT_MOST, BY_PERSON, 1, 7);
+    let two_a_shop = || rule(MAX_LOAD, BY_SHOP, 2, 7);
     let first_two = [(10, 101), (20, 101)];
     vec![
         w("4,3,3,7, step 10", three(), &[0], planned(&[(20, 101), (30, 102)], 1, &[101, 102], &[1, 1, 2, 2])),
@@ -60,6 +62,9 @@ fn of_w_and_a_rule() -> Vec<Sheet> {
         w("2,1,0,6, step 30", two_shops(), &[2], planned(&first_two, 1, &[101, 102], &[1, 1, 1, 1])),
         w("3,3,1,7, step 10", one(), &[0], None),
         w("3,3,1,7, step 30", one(), &[2], planned(&first_two, 1, &[101, 102], &[1, 1, 1, 1])),
+        w("5,1,2,7, step 10", two_a_shop(), &[0], planned(&[(20, 101), (30, 102)], 1, &[101, 102], &[1, 1, 2, 2])),
+        w("5,1,2,7, steps 10 and 30", two_a_shop(), &[0, 2], planned(&[(20, 101)], 1, &[101, 102], &[1, 1, 1, 1])),
+        w("5,1,2,7, all steps", two_a_shop(), &[0, 1, 2], planned(&[], 2, &[], &[0, 0, 0, 0])),
     ]
 }
 
@@ -78,6 +83,8 @@ fn of_one_rule() -> Vec<Sheet> {
     let at_least = rule(AT_LEAST, BY_PERSON, 3, 0b0111);
     let benches = rule(AT_LEAST, BY_BENCH, 3, 0b0111);
     let shops = rule(AT_LEAST, BY_SHOP, 3, 0b0111);
+    let apart = rule(MAX_LOAD, BY_PERSON, 1, 0b0111);
+    let a_shop = rule(MAX_LOAD, BY_SHOP, 2, 0b0111);
     let last_two = [(30, 102), (40, 101)];
     vec![
         left("two", &same, &[3], planned(&[(10, 102), (20, 102), (30, 102)], 0, &[102], &[1])),
@@ -97,6 +104,12 @@ fn of_one_rule() -> Vec<Sheet> {
         left("none", &at_least, &[0, 1, 2], planned(&[(40, 101)], 2, &[], &[0])),
         left("two", &benches, &[2], planned(&[(10, 101), (20, 102), (40, 101)], 1, &[101, 102], &[2])),
         left("two", &shops, &[2], planned(&[(10, 101), (20, 103), (40, 101)], 0, &[103], &[2])),
+        left("three", &apart, &[3], planned(&[(10, 101), (20, 102), (30, 103)], 0, &[101], &[1])),
+        left("two", &apart, &[0], planned(&[(20, 102), (30, 103), (40, 101)], 0, &[102], &[1])),
+        left("one", &apart, &[0, 1], planned(&last_two, 1, &[102, 103], &[1])),
+        left("none", &apart, &[0, 1, 2], planned(&[(40, 101)], 2, &[], &[0])),
+        left("three", &a_shop, &[3], planned(&[(10, 101), (20, 102), (30, 103)], 0, &[103], &[2])),
+        left("two", &a_shop, &[2], planned(&[(10, 101), (20, 102), (40, 101)], 1, &[101, 102], &[2])),
     ]
 }
 

@@ -1,9 +1,10 @@
-//! Jobs of full size, which are too large for the brute force: under work, and with skipped steps, in every form.
+//! Jobs of full size, which are too large for the brute force: under work, with skipped steps, and spread over benches, in every
+//! form.
 
-use model::answers::{Call, MOST_CAP, MOST_CREW_BYTES};
-use model::builder::{lay, person, rule, skipping, step};
+use model::answers::{crew_bytes, spare_bytes, Call, MOST_CAP, MOST_CREW_BYTES, SPARE_BYTES};
+use model::builder::{lay, person, person_in, rule, skipping, step};
 use model::card::MOST_BYTES;
-use model::job::{Form, Job, AT_MOST, BY_BENCH, BY_PERSON, MOST_PEOPLE, MOST_RULES, MOST_STEPS, SAME};
+use model::job::{Form, Job, AT_MOST, BY_BENCH, BY_PERSON, MAX_LOAD, MOST_PEOPLE, MOST_RULES, MOST_STEPS, SAME};
 use model::library::{open, run, sign};
 use model::plans::{is_valid, plan_by};
 use model::random::Random;
@@ -180,4 +181,43 @@ fn a_full_sheet_with_all_steps_skipped_needs_nobody() {
     assert_eq!(work, Work::holding(&sheet));
     assert_eq!(sign(&mut work, 1, 100), UNKNOWN);
     assert_eq!(work, Work { refusals: 1, ..Work::holding(&sheet) });
+}
+
+/// 64 people who may do all 12 steps, by turns at four classes of the first level; below it each is in a class of their own. No
+/// class of the first level holds more steps than the limit, skipped ones aside.
+fn spread(form: Form, limit: u8, skipped: usize) -> Job {
+    let all = (1 << MOST_STEPS) - 1;
+    let classes = |i: usize| [1 + i as u16 % 4, 1 + i as u16, 1 + i as u16];
+    let held = |i: usize| person_in(1 + i as u32, &classes(i)[..form.class_levels().into()], all);
+    let job = Job {
+        form,
+        people: (0..MOST_PEOPLE).map(held).collect(),
+        steps: (0..MOST_STEPS).map(|j| step(1 + j as u32)).collect(),
+        rules: vec![rule(MAX_LOAD, 1, limit, all)],
+    };
+    skipping(job, 0..skipped)
+}
+
+/// The first of each class in turn does as many steps as the limit allows.
+#[test]
+fn twelve_steps_are_spread_over_four_classes() {
+    for (form, limit, skipped) in
+        Form::ALL.into_iter().flat_map(|form| [(form, 3, 0), (form, 4, 0), (form, 11, 0), (form, 2, 4), (form, 2, 9)])
+    {
+        let sheet = lay(&spread(form, limit, skipped)).bytes;
+        let left = skipped..MOST_STEPS;
+        let given = |j: usize| (1 + j as u32, 1 + ((j - skipped) / usize::from(limit)) as u32);
+        let crew = crew_bytes(&left.map(given).collect::<Vec<_>>());
+        let mut area = [0; MOST_CREW_BYTES];
+        assert_eq!(run(Call::Crew, &sheet, &mut area), 0, "{form}, {limit}");
+        assert_eq!(area[..crew.len()], crew, "{form}, {limit}");
+        // Each class has sixteen people.
+        let mut area = [0; SPARE_BYTES];
+        assert_eq!(run(Call::Spare { cap: MOST_CAP }, &sheet, &mut area), 0, "{form}, {limit}");
+        assert_eq!(area[..], spare_bytes(3, &[]), "{form}, {limit}");
+    }
+    for (form, skipped) in Form::ALL.into_iter().flat_map(|form| [0, 3].map(|skipped| (form, skipped))) {
+        let sheet = lay(&spread(form, 2, skipped)).bytes;
+        assert_eq!(run(Call::Crew, &sheet, &mut [0; MOST_CREW_BYTES]), 13 * 256, "{form}, {skipped} skipped");
+    }
 }

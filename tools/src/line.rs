@@ -124,8 +124,8 @@ fn step(words: &mut Words) -> Result<Line, String> {
 
 fn rule(words: &mut Words) -> Result<Line, String> {
     let word = words.next("the rule's kind")?;
-    let kind =
-        words::kind(word).ok_or_else(|| format!("a rule is same, different, at-most or at-least, not '{word}'"))?;
+    let unknown = || format!("a rule is same, different, at-most, at-least or max-load, not '{word}'");
+    let kind = words::kind(word).ok_or_else(unknown)?;
     let limit = if has_limit(kind) { words.number("the limit", u8::MAX.into())? as u8 } else { 0 };
     let word = words.next("the level")?;
     let level = words::level(word).ok_or_else(|| format!("a level is shop, bench, pair or person, not '{word}'"))?;
@@ -149,7 +149,7 @@ pub fn read(text: &str) -> Result<Option<Line>, String> {
 #[cfg(test)]
 mod tests {
     use super::*;
-    use model::job::AT_MOST;
+    use model::job::{AT_MOST, MAX_LOAD};
 
     #[test]
     fn lines_are_read() {
@@ -162,6 +162,8 @@ mod tests {
         assert_eq!(read("step 20 # skipped"), Ok(Some(Line::Step { tag: 20, skipped: false })));
         let rule = Line::Rule { kind: AT_MOST, level: Level::Person, limit: 2, steps: vec![10, 20, 30] };
         assert_eq!(read("rule at-most 2 person 10 20 30"), Ok(Some(rule)));
+        let load = Line::Rule { kind: MAX_LOAD, level: Level::Class(2), limit: 2, steps: vec![10, 20, 30] };
+        assert_eq!(read("rule max-load 2 bench 10 20 30"), Ok(Some(load)));
         assert_eq!(read("# nothing"), Ok(None));
     }
 
@@ -204,6 +206,11 @@ mod tests {
         assert_eq!(reason("levels 4"), "the number of class levels is a number from 1 to 3, not '4'");
         assert_eq!(reason("levels 2 2"), "nothing is wanted where '2' stands");
         assert_eq!(reason("rule same floor 1 2"), "a level is shop, bench, pair or person, not 'floor'");
+        assert_eq!(
+            reason("rule load 2 bench 1 2"),
+            "a rule is same, different, at-most, at-least or max-load, not 'load'"
+        );
+        assert_eq!(reason("rule max-load bench 1 2"), "the limit is a number from 1 to 255, not 'bench'");
         assert_eq!(reason("rule at-least shop 1 2"), "the limit is a number from 1 to 255, not 'shop'");
     }
 }

@@ -1,10 +1,11 @@
 //! The words for rule kinds and levels, and for a step that is skipped.
 
-use model::job::{Form, AT_LEAST, AT_MOST, DIFFERENT, MOST_CLASS_LEVELS, SAME};
+use model::job::{Form, AT_LEAST, AT_MOST, DIFFERENT, MAX_LOAD, MOST_CLASS_LEVELS, SAME};
 
 type Named = (u8, &'static str);
 
-pub const KINDS: [Named; 4] = [(SAME, "same"), (DIFFERENT, "different"), (AT_MOST, "at-most"), (AT_LEAST, "at-least")];
+pub const KINDS: [Named; 5] =
+    [(SAME, "same"), (DIFFERENT, "different"), (AT_MOST, "at-most"), (AT_LEAST, "at-least"), (MAX_LOAD, "max-load")];
 
 /// The class levels, topmost first. A sheet has the first of them.
 pub const CLASSES: [&str; MOST_CLASS_LEVELS] = ["shop", "bench", "pair"];

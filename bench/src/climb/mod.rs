@@ -32,7 +32,7 @@ pub const USAGE: &str =
 A climb follows times, so that the same seed may end on another sheet.";
 
 /// Where to start from unless something is named: of the practice sheets only some, since there are so many of them.
-const STARTS: [&str; 10] = [
+const STARTS: [&str; 12] = [
     "practice-4",
     "practice-8",
     "practice-14",
@@ -43,6 +43,8 @@ const STARTS: [&str; 10] = [
     "fifth-shop",
     "eleven-benches",
     "last-part",
+    "mixed",
+    "spread",
 ];
 
 /// So many changes in a row that make nothing slower end a climb.

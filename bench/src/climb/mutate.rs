@@ -1,7 +1,7 @@
 //! Small changes of a job. Each leaves a job that the reader takes.
 
 use model::classes::Classes;
-use model::job::{has_limit, Job, Rule, AT_LEAST, AT_MOST, DIFFERENT, MOST_PEOPLE, MOST_RULES, SAME};
+use model::job::{has_limit, Job, Rule, DIFFERENT, LIMITED, MOST_PEOPLE, MOST_RULES, SAME};
 use model::jobs::{any_count, any_level, random_rule};
 use model::random::Random;
 
@@ -69,7 +69,7 @@ fn copy_rule(random: &mut Random, job: &mut Job) {
     job.rules.push(rule);
 }
 
-/// Between same and different, or between at most and at least. A pair may become a count.
+/// Between same and different, or among the kinds that have a limit. A pair may become one of these.
 fn change_kind(random: &mut Random, job: &mut Job) {
     let Some(rule) = any_rule(random, job) else {
         return;
@@ -77,9 +77,15 @@ fn change_kind(random: &mut Random, job: &mut Job) {
     rule.kind = match rule.kind {
         SAME | DIFFERENT if random.once_in(3) => any_count(random),
         SAME | DIFFERENT => SAME + DIFFERENT - rule.kind,
-        kind => AT_MOST + AT_LEAST - kind,
+        kind => other_count(random, kind),
     };
     fit_limit(rule);
+}
+
+/// Another kind that has a limit.
+fn other_count(random: &mut Random, kind: u8) -> u8 {
+    let others: Vec<u8> = LIMITED.into_iter().filter(|other| *other != kind).collect();
+    others[random.below(others.len())]
 }
 
 fn change_level(random: &mut Random, job: &mut Job) {
@@ -89,7 +95,7 @@ fn change_level(random: &mut Random, job: &mut Job) {
     }
 }
 
-/// A count gains or loses a step; of a pair one step is put in place of another.
+/// A rule with a limit gains or loses a step; of a pair one step is put in place of another.
 fn change_scope(random: &mut Random, job: &mut Job) {
     let steps = job.steps.len();
     let bit = 1u16 << random.below(steps);
@@ -210,9 +216,10 @@ pub fn mutated(random: &mut Random, job: &Job) -> Job {
 mod tests {
     use super::*;
     use model::builder::lay;
-    use model::job::Form;
+    use model::job::{Form, MAX_LOAD};
     use model::jobs::{good_job, job_of, small_job};
     use model::reader::read;
+    use std::collections::BTreeSet;
 
     #[test]
     fn changes_keep_a_sheet_readable() {
@@ -223,6 +230,30 @@ mod tests {
                 job = mutated(&mut random, &job);
                 assert_eq!(read(&lay(&job).bytes).as_ref(), Ok(&job));
             }
+        }
+    }
+
+    #[test]
+    fn every_kind_comes_up_at_every_level() {
+        let mut random = Random::new(9);
+        for form in Form::ALL {
+            let mut met = BTreeSet::new();
+            let mut job = job_of(&mut random, form, 8, 6, 4);
+            for _ in 0..3_000 {
+                job = mutated(&mut random, &job);
+                met.extend(job.rules.iter().map(|rule| (rule.kind, rule.level)));
+            }
+            let all = (SAME..=MAX_LOAD).flat_map(|kind| (1..=form.person_level()).map(move |level| (kind, level)));
+            assert!(met.into_iter().eq(all), "{form}");
+        }
+    }
+
+    #[test]
+    fn a_kind_with_a_limit_becomes_any_other() {
+        let mut random = Random::new(10);
+        for kind in LIMITED {
+            let met: BTreeSet<u8> = (0..100).map(|_| other_count(&mut random, kind)).collect();
+            assert!(met.into_iter().eq(LIMITED.into_iter().filter(|other| *other != kind)), "{kind}");
         }
     }
 

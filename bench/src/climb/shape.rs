@@ -46,14 +46,17 @@ pub fn line(job: &Job) -> String {
 #[cfg(test)]
 mod tests {
     use super::*;
-    use model::builder::{job_w, job_w_in};
-    use model::job::Form;
+    use model::builder::{job_w, job_w_in, rule};
+    use model::job::{Form, BY_BENCH, BY_PERSON, MAX_LOAD};
 
     #[test]
     fn w_has_its_shape() {
         let line = line(&job_w());
         assert!(line.starts_with("3 steps, 4 people on 3 benches in 2 shops, 66 % permitted, 3 rules: "));
         assert!(line.ends_with("1 same shop, 1 same bench, 1 different person"));
+        let mut spread = job_w();
+        spread.rules = vec![rule(MAX_LOAD, BY_BENCH, 2, 7), rule(MAX_LOAD, BY_PERSON, 1, 7)];
+        assert!(super::line(&spread).ends_with(" 2 rules: 1 max-load bench, 1 max-load person"));
     }
 
     #[test]

@@ -1,4 +1,5 @@
-//! A job as a logic program: facts about the sheet, and the rules as counts. No step of the job is skipped.
+//! A job as a logic program: facts about the sheet, and the rules as counts, of classes or of the steps of a class. No step of the
+//! job is skipped.
 
 use model::job::{steps_of, Job, MOST_PEOPLE, MOST_STEPS};
 
@@ -12,6 +13,7 @@ pair(R, S, T) :- scope(R, S), scope(R, T), S < T.
 :- rule(R, 2, L, _), pair(R, S, T), in(L, S, C), in(L, T, C).
 :- rule(R, 3, L, K), #count { C : in(L, S, C), scope(R, S) } > K.
 :- rule(R, 4, L, K), #count { C : in(L, S, C), scope(R, S) } < K.
+:- rule(R, 5, L, K), class(L, _, C), #count { S : in(L, S, C), scope(R, S) } > K.
 #show do/2.
 ";
 

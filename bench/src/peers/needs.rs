@@ -1,10 +1,10 @@
 //! A job as needs on variables that are true or false, after the appendix of document 004 on pseudo-Boolean problems.
 //!
 //! There is a variable for each step and person permitted, one for each step and class of a level that a rule names, and
-//! for each rule that counts one for each class. The appendix has at-most rules for people only; here they are for any
-//! level, and at-least rules are done alike. No step of the job is skipped.
+//! for each rule that counts classes one for each class. The appendix has at-most rules for people only; here they are for any
+//! level, and at-least rules are done alike. A load is a bound on the steps of each class. No step of the job is skipped.
 
-use model::job::{steps_of, Job, Rule, AT_MOST, DIFFERENT, SAME};
+use model::job::{steps_of, Job, Rule, AT_LEAST, AT_MOST, DIFFERENT, MAX_LOAD, SAME};
 use std::collections::BTreeMap;
 
 /// Variables are numbered from 1.
@@ -58,7 +58,9 @@ impl Needs {
             }
             match rule.kind {
                 SAME | DIFFERENT => needs.pair(rule),
-                _ => needs.count(rule),
+                AT_MOST | AT_LEAST => needs.count(rule),
+                MAX_LOAD => needs.load(rule),
+                kind => panic!("no rule has kind {kind}"),
             }
         }
         needs
@@ -108,16 +110,28 @@ impl Needs {
         }
     }
 
-    /// For each class a variable: for at most it is true when the class does a step of the scope, for at least only then.
-    fn count(&mut self, rule: &Rule) {
+    /// For each class the variables of the steps of the scope that somebody of it can do.
+    fn within(&self, rule: &Rule) -> BTreeMap<u32, Vec<Var>> {
         let mut within: BTreeMap<u32, Vec<Var>> = BTreeMap::new();
         for step in steps_of(rule.scope) {
             for (class, var) in &self.classes[&(rule.level, step)] {
                 within.entry(*class).or_default().push(*var);
             }
         }
+        within
+    }
+
+    /// Of each class that can do more steps of the scope than the limit at most so many are true.
+    fn load(&mut self, rule: &Rule) {
+        let high = rule.limit.into();
+        let crowded = self.within(rule).into_values().filter(|of| of.len() > high);
+        self.all.extend(crowded.map(|of| Need::Between { of, low: 0, high }));
+    }
+
+    /// For each class a variable: for at most it is true when the class does a step of the scope, for at least only then.
+    fn count(&mut self, rule: &Rule) {
         let mut counted = vec![];
-        for of in within.into_values() {
+        for of in self.within(rule).into_values() {
             let whole = self.new_var();
             counted.push(whole);
             if rule.kind == AT_MOST {
@@ -145,7 +159,8 @@ impl Needs {
 #[cfg(test)]
 mod tests {
     use super::*;
-    use model::builder::job_w;
+    use model::builder::{job_w, rule};
+    use model::job::BY_BENCH;
     use model::jobs::small_job;
     use model::plans::{first_plan, is_valid, plan_by, Plan};
     use model::random::Random;
@@ -172,7 +187,7 @@ mod tests {
     #[test]
     fn needs_can_be_met_when_there_is_a_plan() {
         let mut random = Random::new(21);
-        let mut both = [0, 0];
+        let (mut both, mut loads) = ([0, 0], 0);
         for _ in 0..20_000 {
             let needs_of = shortened(&small_job(&mut random));
             let needs = Needs::new(&needs_of);
@@ -186,11 +201,24 @@ mod tests {
             assert!(plans.iter().all(|plan| is_valid(&needs_of, plan)), "{needs_of:?}");
             assert_eq!(plans.iter().min().cloned(), first_plan(&needs_of, &[]), "{needs_of:?}");
             both[usize::from(plans.is_empty())] += 1;
+            loads += usize::from(needs_of.rules.iter().any(|rule| rule.kind == MAX_LOAD));
             if both.iter().sum::<usize>() == 300 {
                 break;
             }
         }
-        assert!(both[0] > 20 && both[1] > 20, "{both:?}");
+        assert!(both[0] > 20 && both[1] > 20 && loads > 20, "{both:?} {loads}");
+    }
+
+    #[test]
+    fn a_load_bounds_the_steps_of_a_class_that_could_do_more() {
+        let mut job = job_w();
+        job.rules = vec![rule(MAX_LOAD, BY_BENCH, 2, 7)];
+        let needs = Needs::new(&job);
+        let bench = |step| needs.classes[&(BY_BENCH, step)][&1];
+        // Of the three benches the first alone can do more than one step.
+        let bound = Need::Between { of: [0, 1, 2].map(bench).into(), low: 0, high: 2 };
+        let bounds: Vec<&Need> = needs.all.iter().filter(|need| matches!(need, Need::Between { low: 0, .. })).collect();
+        assert_eq!(bounds, [&bound]);
     }
 
     #[test]

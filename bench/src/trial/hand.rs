@@ -2,7 +2,7 @@
 //! read.
 
 use crate::baseline::Plan;
-use crate::problem::{Count, Pair, Problem};
+use crate::problem::{Count, Load, Pair, Problem};
 use model::job::MOST_STEPS;
 
 /// How many plans were tried, and the first valid one.
@@ -26,7 +26,15 @@ fn is_valid(problem: &Problem, plan: &Plan) -> bool {
         }
         (count.low..=count.high).contains(&classes)
     };
-    (0..problem.steps).all(may) && problem.pairs.iter().all(keeps) && problem.counts.iter().all(counts)
+    let spreads = |load: &Load| {
+        let class = |step: usize| problem.class[load.level][plan[step]];
+        let held = |by: u64| load.scope.iter().filter(|&&step| by >> plan[step] & 1 == 1).count();
+        load.scope.iter().all(|&step| held(class(step)) <= load.most)
+    };
+    (0..problem.steps).all(may)
+        && problem.pairs.iter().all(keeps)
+        && problem.counts.iter().all(counts)
+        && problem.loads.iter().all(spreads)
 }
 
 /// The plan after this one, if there is one.

@@ -13,7 +13,7 @@ ghost use Prim.Native.Nat.{_*_, _≤_};
 ghost use lib.ListN.{length, drop};
 ghost use Rattle.workflow.specs.First.{foundAs};
 ghost use Rattle.instance.specs.Instance.{crewTags};
-ghost use Rattle.instance.specs.Counts.{Staffed};
+ghost use Rattle.instance.specs.Figures.{Staffed};
 ghost use Rattle.answer.specs.Bytes.{written};
 ghost use Rattle.answer.specs.Crew.{planned};
 

@@ -13,7 +13,7 @@ use Rattle.bits.specs.Word.{hasBit}
 use Rattle.bits.proofs.Below.{by-cases, below-suc}
 use Rattle.bits.proofs.Says.{says-of, says-true, says-false}
 use Rattle.bits.proofs.SetLaws.{empty-lacks}
-use Rattle.workflow.specs.Problem.{Job, Rule, Plan, Agree, OfPeople, Met, Valid, classCount}
+use Rattle.workflow.specs.Problem.{Job, Rule, Plan, Agree, OfPeople, Met, Valid, classCount, classLoad}
 use Rattle.workflow.proofs.Valid.{valid-agree}
 use Rattle.pattern.specs.declared.Size.{Size}
 use Rattle.pattern.specs.Eligible.{CanBeMet}
@@ -50,12 +50,16 @@ first-more {people} {n} {p} {dom} {plan} w l m h =
 pub first-all : {people n steps : ℕ} {dom plan : List ℕ} → steps ≤ n → TakesFirst people n dom plan → TakesFirst people steps dom plan
 first-all l w = record { sized = w .sized; within = λ s b. w .within s (omega arith); among = λ s b. w .among s (omega arith) }
 
--- a rule is met exactly where it can be met with its count and nothing more
-pub met-says : (j : Job) (r : Rule) (π : Plan) (n : ℕ) (a : Bool) → n ≡ classCount j r π → Says a (CanBeMet r n 0) → Says a (Met j r π)
-met-says j r π n a e h =
+-- a rule that is met can be met with its count and nothing more
+pub met-can-be : (j : Job) (r : Rule) (π : Plan) (n : ℕ) → n ≡ classCount j r π → Met j r π → CanBeMet r n 0
+met-can-be j r π n e m = record { least = omega (arith, m .least); most = omega (arith, m .most) }
+
+-- and one that can is met exactly where no class holds too many steps
+pub met-says : (j : Job) (r : Rule) (π : Plan) (n : ℕ) (a : Bool) → n ≡ classCount j r π → CanBeMet r n 0 → Says a (classLoad j r π ≤ r .load) → Says a (Met j r π)
+met-says j r π n a e w h =
     says-of a (Met j r π)
-    (λ t. let w = says-true a (CanBeMet r n 0) h t in record { least = omega (arith, w .least); most = omega (arith, w .most) })
-    (λ t m. says-false a (CanBeMet r n 0) h t (record { least = omega (arith, m .least); most = omega (arith, m .most) }))
+    (λ t. record { least = omega (arith, w .least); most = omega (arith, w .most); load = says-true a _ h t })
+    (λ t m. says-false a _ h t (m .load))
 
 module _ (crowd rule plan : List ℕ) where
   -- the first n rules are met by the plan, in every job of these arrays

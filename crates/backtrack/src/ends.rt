@@ -6,6 +6,7 @@ use bits::sizes::Domains;
 use bits::sizes::Plan;
 use bits::sizes::Rules;
 use eligible::plan::plan_count;
+use eligible::plan::plan_light;
 use pattern::Size;
 use pattern::rule;
 ghost use mathlib.Core.Bool.{true};
@@ -39,13 +40,16 @@ fn take_first(steps: usize, people: usize, dom: &Domains, plan: &mut Plan) -> bo
     true
 }
 
-// Whether a plan meets a rule: its count is compared.
+// Whether a plan meets a rule: its count and its largest load are compared.
 fn meets(crowd: &Crowds, r: u32, plan: &Plan) -> bool
     requires { ⌜ OneLevel (now crowd) (levelIn r) × (scopeIn r < 4096) × (length (now plan) ≡ 12) ⌝ }
     ensures { λ a. ⌜ ForJobs (now (crowd .entry)) r
         (λ j. OfPeople j (planIn (now (plan .entry))) → Says a (Met j (unpacked r) (planIn (now (plan .entry))))) ⌝ }
 {
-    rule::can_be_met(r, plan_count(crowd, r, plan), 0)
+    if !rule::can_be_met(r, plan_count(crowd, r, plan), 0) {
+        return false;
+    }
+    plan_light(crowd, r, plan)
 }
 
 // Whether a plan meets all rules.

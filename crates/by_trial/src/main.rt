@@ -1,5 +1,5 @@
 // The program of the engine that tries every plan: one sheet from standard input; how many plans were tried and, of a sheet with few
-// plans, each of them; then the crew and the count of each rule for that crew, to standard output.
+// plans, each of them; then the crew and the figure of each rule for that crew, to standard output.
 ghost use Rattle.sheet.specs.Readable.{ReadableJob};
 ghost use Rattle.exhaustive.specs.Trial.{PlanFor};
 use answer::number;
@@ -13,7 +13,7 @@ use exhaustive::plans::next_plan;
 use exhaustive::try_every;
 use exhaustive::valid::first_broken;
 use exhaustive::valid::first_denied;
-use instance::counts::rule_counts;
+use instance::figures::rule_figures;
 use libc::STDIN_FILENO;
 use listing::figure;
 use listing::text;
@@ -72,7 +72,7 @@ fn write_trials(job: SheetJob, people: usize, steps: usize, rules: usize, tried:
 }
 
 // The answer to a sheet: a refusal of the reader; or how many plans were tried, those plans where the sheet has few, and then the
-// first valid plan and the count of each rule for it, or that there is none.
+// first valid plan and the figure of each rule for it, or that there is none.
 fn write_answer(sheet: &[u8]) {
     let read = read_job(sheet);
     let reading = read.reading;
@@ -99,8 +99,8 @@ fn write_answer(sheet: &[u8]) {
     }
     let plan = trial.plan;
     write_plan(job, steps, &plan);
-    let counts = rule_counts(job, rules, &plan);
-    write_rules(job, rules, &counts);
+    let figures = rule_figures(job, rules, &plan);
+    write_rules(job, rules, &figures);
 }
 
 fn main() {

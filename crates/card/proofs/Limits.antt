@@ -10,11 +10,11 @@ use Rattle.card.specs.Fields.{limitOk}
 -- the two forms of a limit that was tested
 pub limit-cases : {P : Type 0} (kind limit size : ℕ) → limitOk kind limit size ≡ true
     → (kind ≤ 2 → 1 ≤ kind → size ≡ 2 → limit ≡ 0 → P)
-    → (3 ≤ kind → kind ≤ 4 → 2 ≤ size → 1 ≤ limit → limit ≤ size → P)
+    → (3 ≤ kind → kind ≤ 5 → 2 ≤ size → 1 ≤ limit → limit ≤ size → P)
     → P
 unfolding limitOk
 limit-cases {P} kind limit size h pair range =
-    go (leb 1 kind) (leb kind 2) (eqb size 2) (eqb limit 0) (leb 3 kind) (leb kind 4) (leb 2 size) (leb 1 limit) (leb limit size) h
+    go (leb 1 kind) (leb kind 2) (eqb size 2) (eqb limit 0) (leb 3 kind) (leb kind 5) (leb 2 size) (leb 1 limit) (leb limit size) h
     (λ a b c d. pair (leb-true _ _ b) (leb-true _ _ a) (eqb-true _ _ c) (eqb-true _ _ d))
     (λ a b c d e. range (leb-true _ _ a) (leb-true _ _ b) (leb-true _ _ c) (leb-true _ _ d) (leb-true _ _ e))
   where

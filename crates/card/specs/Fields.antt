@@ -102,7 +102,7 @@ stepOk s c =
     && eqb (cardLong s c 8) 0
     && eqb (cardLong s c 12) 0
 
--- "Rule: byte 1 rule kind 1 to 4; byte 4 level 1 to 3; byte 5 limit; bytes 6-7 scope, bit j for step j". "The person is the level after the
+-- "Rule: byte 1 rule kind 1 to 4; byte 4 level 1 to 3; byte 5 limit; bytes 6-7 scope, bit j for step j"; "Rule kind 5, in both versions". "The person is the level after the
 -- last, and the highest a rule may name"
 abbrev pub ruleKindOf : List ℕ → ℕ → ℕ
 ruleKindOf s c = cardByte s c 1
@@ -121,11 +121,11 @@ abbrev pub scopeSize : ℕ → ℕ
 scopeSize scope = bitsSet 16 scope
 
 -- "Kind 1, same: two steps in scope, limit 0. Kind 2, different: two steps in scope, limit 0. Kind 3, at most: two or more steps, limit 1
--- to the number of steps in scope. Kind 4, at least: as kind 3."
+-- to the number of steps in scope. Kind 4, at least: as kind 3." "Rule kind 5 ..: two or more steps, limit 1 to that number."
 unfoldable pub limitOk : ℕ → ℕ → ℕ → Bool
 limitOk kind limit size =
     (within 1 2 kind && eqb size 2 && eqb limit 0)
-    || (within 3 4 kind && leb 2 size && within 1 size limit)
+    || (within 3 5 kind && leb 2 size && within 1 size limit)
 
 -- "bits not below the number of steps are zero, or this card gets 8": steps is how many the step chain has
 unfoldable pub ruleOk : List ℕ → ℕ → ℕ → Bool

@@ -99,7 +99,7 @@ fn limit_ok(kind: usize, limit: usize, size: usize) -> bool
     ensures { λ r. ⌜ r ≡ limitOk kind limit size ⌝ }
 {
     ((1 <= kind) & (kind <= 2) & (size == 2) & (limit == 0))
-        | ((3 <= kind) & (kind <= 4) & (2 <= size) & ((1 <= limit) & (limit <= size)))
+        | ((3 <= kind) & (kind <= 5) & (2 <= size) & ((1 <= limit) & (limit <= size)))
 }
 
 // How many steps are in a scope.

@@ -1,5 +1,5 @@
-// The count of a rule, for a pattern and for a plan; and the eligibility of a pattern: whether each rule can
-// still be met, by its count over the placed steps and the steps left open.
+// The figures of a rule, for a pattern and for a plan; and the eligibility of a pattern: whether each rule can
+// still be met, by its count and its largest load over the placed steps and the steps left open.
 pub mod classes;
 pub mod groups;
 pub mod plan;
@@ -9,6 +9,7 @@ use bits::sizes::Labels;
 use bits::sizes::Rules;
 use bits::small;
 use groups::group_count;
+use groups::is_light;
 use pattern::rule;
 ghost use mathlib.Core.Path.{_≡_};
 ghost use mathlib.Core.Bool.{not, _&&_};
@@ -36,7 +37,10 @@ fn possible(rule: u32, placed: u16, label: &Labels) -> bool
 {
     let scope = rule::scope(rule);
     let groups = group_count(rule, placed, label);
-    rule::can_be_met(rule, groups, open_count(scope, placed))
+    if !rule::can_be_met(rule, groups, open_count(scope, placed)) {
+        return false;
+    }
+    is_light(rule, placed, label)
 }
 
 // Whether every rule of a mask can still be met.

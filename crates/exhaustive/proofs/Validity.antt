@@ -10,14 +10,14 @@ use Rattle.bits.specs.Below.{count}
 use Rattle.bits.specs.Says.{Says}
 use Rattle.bits.proofs.Below.{by-cases, true-false, first-le, first-has, first-none}
 use Rattle.bits.proofs.Says.{says-of, says-true, says-false}
-use Rattle.workflow.specs.Problem.{Job, Kind, May, Plan, OfPeople, Valid, classCount, met, ruleOf}
+use Rattle.workflow.specs.Problem.{Job, Kind, May, Plan, OfPeople, Valid, figureOf, met, ruleOf}
 use Rattle.workflow.specs.Skipped.{AsksLeft}
 use Rattle.workflow.specs.Numbered.{kindIn}
 use Rattle.exhaustive.specs.Trial.{deniedIn, brokenIn}
 use Rattle.workflow.proofs.Rules.{met-asks}
 use Rattle.workflow.proofs.Valid.{met-sound, met-complete}
 
--- ---- a count against a rule's kind and limit
+-- ---- a figure against a rule's kind and limit
 
 says-eq : (a b : ℕ) → Says (eqb a b) (a ≡ b)
 says-eq a b = says-of _ _ (eqb-true a b) (eqb-false a b)
@@ -63,16 +63,20 @@ module _ (limit left count : ℕ) where
   pub asks-most : (kind : ℕ) → kind ≡ 3 → Says (leb count limit) (AsksLeft (kindIn kind) limit left count)
   asks-most kind e = rw e (says-le count limit)
 
-  pub asks-least : (kind : ℕ) → 4 ≤ kind → Says (leb limit count || leb left count) (AsksLeft (kindIn kind) limit left count)
-  asks-least zero l = absurd (omega arith)
-  asks-least (suc zero) l = absurd (omega arith)
-  asks-least (suc (suc zero)) l = absurd (omega arith)
-  asks-least (suc (suc (suc zero))) l = absurd (omega arith)
-  asks-least (suc (suc (suc (suc n)))) l = says-smaller limit left count
+  pub asks-least : (kind : ℕ) → kind ≡ 4 → Says (leb limit count || leb left count) (AsksLeft (kindIn kind) limit left count)
+  asks-least kind e = rw e (says-smaller limit left count)
 
--- what was said of a rule's count is whether the plan meets the rule
+  pub asks-load : (kind : ℕ) → 5 ≤ kind → Says (leb count limit) (AsksLeft (kindIn kind) limit left count)
+  asks-load zero l = absurd (omega arith)
+  asks-load (suc zero) l = absurd (omega arith)
+  asks-load (suc (suc zero)) l = absurd (omega arith)
+  asks-load (suc (suc (suc zero))) l = absurd (omega arith)
+  asks-load (suc (suc (suc (suc zero)))) l = absurd (omega arith)
+  asks-load (suc (suc (suc (suc (suc n))))) l = says-le count limit
+
+-- what was said of a rule's figure is whether the plan meets the rule
 pub said-met : (j : Job) (kind : Kind) (level limit : ℕ) (scope : ℕ → Bool) (π : Plan) (left number : ℕ) (b : Bool)
-    → left ≡ count (j .steps) scope → number ≡ classCount j (ruleOf (j .steps) kind level limit scope) π
+    → left ≡ count (j .steps) scope → number ≡ figureOf kind (j .steps) scope (λ s. j .class level (π s))
     → Says b (AsksLeft kind limit left number) → b ≡ met j (ruleOf (j .steps) kind level limit scope) π
 said-met j kind level limit scope π left number b d e said =
     by-cases (met j (ruleOf (j .steps) kind level limit scope) π)

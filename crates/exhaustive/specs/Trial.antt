@@ -8,7 +8,7 @@ use Rattle.bits.specs.Below.{first}
 use Rattle.sheet.specs.declared.SheetJob as sheet
 use Rattle.workflow.specs.Problem.{Job, May, Plan, met}
 use Rattle.workflow.specs.First.{Found, found, nothing, foundAs, firstPlan, planOf}
-use Rattle.instance.specs.Counts.{Staffed, RulesStaffed}
+use Rattle.instance.specs.Figures.{Staffed, RulesStaffed}
 use Rattle.exhaustive.specs.Order.{planNumber}
 
 -- a plan that can be looked at: for each step, and for each that a rule can name, it has a place in the table of people

@@ -2,7 +2,7 @@
 use bits::sizes::PersonWords;
 use bits::sizes::Plan;
 use bits::small;
-use instance::count::rule_count;
+use instance::figure::rule_figure;
 use sheet::SheetJob;
 ghost use mathlib.Core.Path.{_≡_};
 ghost use Prim.Native.Nat.{ℕ, _≤_};
@@ -15,7 +15,7 @@ ghost use Rattle.workflow.specs.Skipped.{AsksLeft};
 ghost use Rattle.workflow.specs.First.{planOf};
 ghost use Rattle.workflow.specs.Numbered.{kindIn};
 ghost use Rattle.instance.specs.Instance.{instanceOf, mayOf};
-ghost use Rattle.instance.specs.Counts.{Staffed, RulesStaffed, ForInstances};
+ghost use Rattle.instance.specs.Figures.{Staffed, RulesStaffed, ForInstances};
 ghost use Rattle.exhaustive.specs.Trial.{PlanFor, deniedIn, brokenIn};
 
 // The first step that its person is not permitted, and the number of steps where there is none.
@@ -31,17 +31,19 @@ pub fn first_denied(permitted: &PersonWords, steps: usize, plan: &Plan) -> usize
     steps
 }
 
-// Whether a rule of a kind and a limit is met by a count over so many steps left in its scope. A readable sheet has the kinds 1 to
-// 4; the arms take in all numbers.
-fn is_met(kind: u8, limit: u8, left: usize, count: usize) -> bool
-    ensures { λ r. ⌜ Says r (AsksLeft (kindIn kind) limit left count) ⌝ }
+// Whether a rule of a kind and a limit is met by its figure over so many steps left in its scope. A readable sheet has the kinds 1 to
+// 5; the arms take in all numbers.
+fn is_met(kind: u8, limit: u8, left: usize, figure: usize) -> bool
+    ensures { λ r. ⌜ Says r (AsksLeft (kindIn kind) limit left figure) ⌝ }
 {
     match kind {
-        0..=1 => (left < 2) | (count == 1),
-        2 => (left < 2) | (count == 2),
-        3 => count <= limit as usize,
+        0..=1 => (left < 2) | (figure == 1),
+        2 => (left < 2) | (figure == 2),
+        3 => figure <= limit as usize,
         // The smaller of two limits is reached where one of them is.
-        _ => (count >= limit as usize) | (count >= left),
+        4 => (figure >= limit as usize) | (figure >= left),
+        // No class holds more than the limit.
+        _ => figure <= limit as usize,
     }
 }
 
@@ -55,9 +57,9 @@ pub fn first_broken(job: SheetJob, rules: usize, plan: &Plan) -> usize
     let limit = job.rule_limit;
     let scope = job.rule_scope;
     for i in 0..rules {
-        let count = rule_count(&job.class, job.levels, level[i], scope[i], plan);
+        let figure = rule_figure(&job.class, job.levels, kind[i], level[i], scope[i], plan);
         let left = small::size(scope[i]);
-        if !is_met(kind[i], limit[i], left, count) {
+        if !is_met(kind[i], limit[i], left, figure) {
             return i;
         }
     }

@@ -9,7 +9,7 @@ use Rattle.sheet.specs.Read.{readSheet, readPeople, peopleRead, stepsRead, chec
 use Rattle.sheet.specs.Answer.{jobOf, classColumns, table}
 use Rattle.remaining.specs.Kept.{keptBelow, gather}
 use Rattle.remaining.specs.Remaining.{jobOver}
-use Rattle.workflow.specs.Problem.{opens, distinct, authorisedTest, eligibleTest, valid}
+use Rattle.workflow.specs.Problem.{opens, distinct, loadOf, largest, largestLoad, fewest, authorisedTest, eligibleTest, valid}
 use Rattle.workflow.specs.First.{firstPlan, firstOf, tryAll}
 use Rattle.signing.specs.Open.{ifPlan, openRead}
 use Rattle.signing.specs.Sign.{placeOf, decided, signOf, signRead}
@@ -25,7 +25,7 @@ returned-history (signing a b n ∷ h) r = (after h, returned-history h (r .1), 
 
 pub day-goes : DayGoes
 unfolding all any count first formOk headerOk classLevels classFieldOk personOk stepOk ruleOk limitOk fieldsOk walk member firstFault readSheet readPeople peopleRead stepsRead checked firstClash firstLate
-    firstLoose jobOf classColumns table keptBelow gather jobOver opens distinct authorisedTest eligibleTest valid firstPlan firstOf tryAll ifPlan openRead placeOf decided signOf signRead held opened
+    firstLoose jobOf classColumns table keptBelow gather jobOver opens distinct loadOf largest largestLoad fewest authorisedTest eligibleTest valid firstPlan firstOf tryAll ifPlan openRead placeOf decided signOf signRead held opened
 day-goes =
     record {
       history = returned-history day (refl, (refl, (refl, (refl, (refl, (refl, (refl, (refl, (refl, tt)))))))));

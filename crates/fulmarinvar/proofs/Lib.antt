@@ -11,6 +11,7 @@ pub mod CrewDemand
 pub mod SpareDemand
 pub mod SheetDemand
 pub mod RuleCounts
+pub mod Loads
 pub mod ByTrial
 pub mod OneReading
 pub mod Stands

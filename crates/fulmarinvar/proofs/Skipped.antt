@@ -15,11 +15,12 @@ use Rattle.card.specs.Layout.{cardLong}
 use Rattle.sheet.specs.Read.{job, readSheet}
 use Rattle.remaining.proofs.Laws.{readable-in, steps-whole, whole-left}
 use Rattle.remaining.specs.Remaining.{skippedAt, keptAt, stepsLeft, jobLeft}
-use Rattle.workflow.specs.Problem.{Kind, same, different, atMost, atLeast, May, Plan}
+use Rattle.workflow.specs.Problem.{Kind, same, different, atMost, atLeast, maxLoad, May, Plan, lookedAt}
 use Rattle.workflow.specs.First.{listOf}
 use Rattle.workflow.specs.Leaves.{planLeft}
-use Rattle.workflow.specs.Skipped.{MarkedJob, scopeLeft, sizeLeft, countLeft, AsksLeft, SatisfiableLeft}
+use Rattle.workflow.specs.Skipped.{MarkedJob, scopeLeft, sizeLeft, AsksLeft, SatisfiableLeft}
 use Rattle.workflow.proofs.Counts.{distinct-le-scope}
+use Rattle.workflow.proofs.Loads.{largest-load-scope}
 use Rattle.workflow.proofs.Leaves.{spread, spread-at, earlier-left}
 use Rattle.instance.specs.Instance.{mayDo, crewTags}
 use Rattle.instance.specs.Marked.{markedIn, permittedIn}
@@ -48,11 +49,12 @@ plans-left s people steps rules e =
 -- ---- all skipped
 
 -- a rule left with no step is met
-none-asked : (k : Kind) (limit left n : ℕ) → left ≡ 0 → n ≡ 0 → AsksLeft k limit left n
-none-asked same limit left n a b = inl (omega arith)
-none-asked different limit left n a b = inl (omega arith)
-none-asked atMost limit left n a b = omega arith
-none-asked atLeast limit left n a b = omega arith
+none-asked : (k : Kind) (limit left n load : ℕ) → left ≡ 0 → n ≡ 0 → load ≡ 0 → AsksLeft k limit left (lookedAt k n load)
+none-asked same limit left n load a b c = inl (omega arith)
+none-asked different limit left n load a b c = inl (omega arith)
+none-asked atMost limit left n load a b c = omega arith
+none-asked atLeast limit left n load a b c = omega arith
+none-asked maxLoad limit left n load a b c = omega arith
 
 module _ (s people steps rules : List ℕ) (e : readSheet s ≡ job people steps rules) (all : (t : ℕ) → t < length steps → skippedAt s steps t ≡ true) where
   none-left : length (stepsLeft s steps) ≡ 0
@@ -82,7 +84,8 @@ module _ (s people steps rules : List ℕ) (e : readSheet s ≡ job people steps
           let size : sizeLeft marked r ≡ 0
           = count-none (length steps) (scopeLeft marked r) (λ t b. is-false _ (λ h. true-false (all t b) (not-true (skippedAt s steps t) (and-right (r .scope t) _ h)))) in
           let few = distinct-le-scope (length steps) (scopeLeft marked r) (λ t. marked .class (r .level) 0) in
-          none-asked (r .kind) (r .limit) (sizeLeft marked r) (countLeft marked r (λ t. 0)) size (omega (arith, few, size));
+          let light = largest-load-scope (length steps) (scopeLeft marked r) (λ t. marked .class (r .level) 0) in
+          none-asked (r .kind) (r .limit) (sizeLeft marked r) _ _ size (omega (arith, few, size)) (omega (arith, light, size));
     },
   )
 

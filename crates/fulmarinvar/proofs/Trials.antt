@@ -8,7 +8,7 @@ use Rattle.sheet.specs.Read.{readSheet, readPeople, peopleRead, stepsRead, chec
 use Rattle.sheet.specs.Answer.{jobOf, classColumns, table}
 use Rattle.remaining.specs.Kept.{keptBelow, gather}
 use Rattle.remaining.specs.Remaining.{jobOver}
-use Rattle.workflow.specs.Problem.{opens, distinct, authorisedTest, eligibleTest, valid}
+use Rattle.workflow.specs.Problem.{opens, distinct, loadOf, largest, largestLoad, fewest, authorisedTest, eligibleTest, valid}
 use Rattle.workflow.specs.First.{firstPlan, firstOf, tryAll}
 use Rattle.instance.specs.Instance.{crewTags}
 use Rattle.answer.specs.Bytes.{written}
@@ -24,9 +24,9 @@ use Rattle.fulmarinvar.specs.Trials.{All, trials, AnsweredBefore}
 
 pub trials-hold : All trials
 unfolding all any count first formOk headerOk classLevels classFieldOk personOk stepOk ruleOk limitOk fieldsOk walk member firstFault readSheet readPeople peopleRead stepsRead checked firstClash firstLate
-    firstLoose jobOf classColumns table keptBelow gather jobOver opens distinct authorisedTest eligibleTest valid firstPlan firstOf tryAll crewTags written
+    firstLoose jobOf classColumns table keptBelow gather jobOver opens distinct loadOf largest largestLoad fewest authorisedTest eligibleTest valid firstPlan firstOf tryAll crewTags written
     planned crewOf crewRead breaking increasing spare firstBreaking counts.countFrom awayTags spareBytes spareOf spareRead spareAnswer linesBelow linesFound linesRead triedRead planNumber
-trials-hold = ((refl, refl, refl, (refl, (refl, tt))), ((refl, refl, refl, (refl, tt)), ((refl, refl, refl, (refl, tt)), ((refl, refl, refl, (refl, tt)), ((refl, refl, refl, (refl, tt)), ((refl, refl, refl, (refl, tt)), ((refl, refl, refl, (refl, tt)), ((refl, refl, refl, (refl, tt)), ((refl, refl, refl, (refl, tt)), ((refl, refl, refl, (refl, tt)), ((refl, refl, refl, (refl, (refl, tt))), ((refl, refl, refl, (refl, tt)), ((refl, refl, refl, (refl, tt)), ((refl, refl, refl, (refl, tt)), ((refl, refl, refl, (refl, tt)), tt)))))))))))))))
+trials-hold = ((refl, refl, refl, (refl, (refl, tt))), ((refl, refl, refl, (refl, tt)), ((refl, refl, refl, (refl, tt)), ((refl, refl, refl, (refl, tt)), ((refl, refl, refl, (refl, tt)), ((refl, refl, refl, (refl, tt)), ((refl, refl, refl, (refl, tt)), ((refl, refl, refl, (refl, tt)), ((refl, refl, refl, (refl, tt)), ((refl, refl, refl, (refl, tt)), ((refl, refl, refl, (refl, (refl, tt))), ((refl, refl, refl, (refl, tt)), ((refl, refl, refl, (refl, tt)), ((refl, refl, refl, (refl, tt)), ((refl, refl, refl, (refl, tt)), ((refl, refl, refl, (refl, tt)), ((refl, refl, refl, (refl, tt)), ((refl, refl, refl, (refl, tt)), ((refl, refl, refl, (refl, tt)), tt)))))))))))))))))))
 
 pub answered-before : AnsweredBefore
 unfolding walk

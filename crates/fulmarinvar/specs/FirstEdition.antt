@@ -1,4 +1,5 @@
--- The definitions of the edition before Ask 6, which knew version 1 sheets alone: shop, bench and person. What follows a reading is said of any
+-- The definitions of the edition before Ask 6, which knew version 1 sheets alone: shop, bench and person. Marks of steps (Ask 5) and kinds of rules (Ask 7) are as they
+-- are now: both are the same in version 2. What follows a reading is said of any
 -- problem (`crewFor`, `spareFor`, `ifPlan`, `signFor`); here it is said of the one that this edition posed. Levels.antt says that the calls still give
 -- this for every sheet that is not of version 2. Assumes nothing.
 use mathlib.Core.Bool.{Bool, false, not, cond, _&&_}
@@ -56,7 +57,7 @@ personFirst s c =
     && onlyBelow 12 (permittedOf s c)
     && eqb (cardWord s c 14) 0
 
--- "Rule: byte 1 rule kind 1 to 4; byte 4 level 1 to 3"
+-- "Rule: byte 1 rule kind 1 to 4; byte 4 level 1 to 3"; "Rule kind 5, in both versions"
 abbrev pub ruleFirst : List ℕ → ℕ → ℕ → Bool
 ruleFirst s steps c =
     limitOk (ruleKindOf s c) (limitOf s c) (scopeSize (scopeOf s c))

@@ -6,6 +6,7 @@ pub mod Skipped
 pub mod FirstEdition
 pub mod Levels
 pub mod RuleCounts
+pub mod Loads
 pub mod ByTrial
 pub mod Sheets
 pub mod Trials

@@ -1,4 +1,4 @@
--- Cards written out, the starred sheets to try of paper 01, and sheets with skipped steps and with other levels. Assumes nothing.
+-- Cards written out, the starred sheets to try of paper 01, and sheets with skipped steps, with other levels and with a limit on the load. Assumes nothing.
 use mathlib.Core.List.{List, [], _∷_, _++_}
 use Prim.Native.Nat.{ℕ, _/_, _%_}
 
@@ -58,9 +58,13 @@ sheetW = likeW 11 4 (rule 10 1 1 0 6 ++ rule 0 2 3 0 6)
 abbrev pub sheet3 : List ℕ
 sheet3 = likeW 11 0 (rule 10 1 1 0 6 ++ rule 0 2 3 0 6)
 
--- "W and a rule": of kind, level, limit, scope
+-- W and a rule, of kind, level, limit, scope, with its second step marked
+abbrev pub skippingWith : ℕ → ℕ → ℕ → ℕ → ℕ → List ℕ
+skippingWith mark kind level limit scope = markedW 0 mark 0 12 4 (rule 10 1 1 0 6 ++ rule 11 2 3 0 6 ++ rule 0 kind level limit scope)
+
+-- "W and a rule"
 abbrev pub sheetWith : ℕ → ℕ → ℕ → ℕ → List ℕ
-sheetWith kind level limit scope = likeW 12 4 (rule 10 1 1 0 6 ++ rule 11 2 3 0 6 ++ rule 0 kind level limit scope)
+sheetWith = skippingWith 0
 
 -- "One person, one step": of what the person is permitted
 abbrev pub sheetOne : ℕ → List ℕ

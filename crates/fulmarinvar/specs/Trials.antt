@@ -1,4 +1,4 @@
--- The starred sheets to try of paper 01, W with skipped steps and sheets with other levels, in one table with one statement. Assumes nothing.
+-- The starred sheets to try of paper 01, W with skipped steps, sheets with other levels and W with a limit on the load, in one table with one statement. Assumes nothing.
 use mathlib.Core.List.{List, [], _∷_, _++_}
 use mathlib.Core.Path.{_≡_}
 use Prim.Native.Nat.{ℕ, _+_}
@@ -9,7 +9,7 @@ use Rattle.resiliency.specs.Spare.{spareAnswer}
 use Rattle.fulmarinvar.specs.ByTrial.{plansTriedOf}
 use Rattle.fulmarinvar.specs.FirstEdition.{crewFirst, spareFirst}
 use Rattle.fulmarinvar.specs.RuleCounts.{RuleLine, ruleLines}
-use Rattle.fulmarinvar.specs.Sheets.{sheetW, sheet3, sheet9, sheetWith, sheetOne, sheetSkipping, sheetW2, sheetShops, sheetPairs}
+use Rattle.fulmarinvar.specs.Sheets.{sheetW, sheet3, sheet9, sheetWith, skippingWith, sheetOne, sheetSkipping, sheetW2, sheetShops, sheetPairs}
 
 -- what the spare call gives with a cap
 pub record SpareTrial : Type 0 where
@@ -60,7 +60,7 @@ crewW = tags (10 ∷ 101 ∷ 20 ∷ 101 ∷ 30 ∷ 102 ∷ [])
 
 -- "`RULE`" and these figures: "For W: `RULE 1 2 0 1`, `RULE 1 1 0 1`, `RULE 2 3 0 2`."
 abbrev pub figures : ℕ → ℕ → ℕ → ℕ → RuleLine
-figures kind level limit count = record { kind = kind; level = level; limit = limit; count = count }
+figures kind level limit figure = record { kind = kind; level = level; limit = limit; figure = figure }
 
 abbrev pub linesW : List RuleLine
 linesW = figures 1 2 0 1 ∷ figures 1 1 0 1 ∷ figures 2 3 0 2 ∷ []
@@ -70,7 +70,8 @@ abbrev pub unreadable : ℕ → ℕ → ℕ → Outcome
 unreadable refusal card n = refused refusal card (used n)
 
 -- sheets 1 and 2, which are W with two caps, 3 to 9, and W with its second step skipped, then with all; of version 2 W, shops only, and pairs within benches; then
--- a pair on two benches, and four class levels
+-- a pair on two benches, and four class levels; W with no more than two steps at a bench, the same with its second step skipped, with one step at a bench, which no
+-- plan meets, and with a rule of kind 6
 abbrev pub trials : List SheetTrial
 trials =
     record { sheet = sheetW; size = 24; crew = crewW; tried = 2; lines = linesW; spares = counted 2 1 (101 ∷ 102 ∷ 0 ∷ []) ∷ counted 0 0 (0 ∷ 0 ∷ 0 ∷ []) ∷ [] }
@@ -88,6 +89,10 @@ trials =
     ∷ record { sheet = sheetPairs 3 3; size = 24; crew = tags (10 ∷ 101 ∷ 20 ∷ 102 ∷ 30 ∷ 101 ∷ []); tried = 5; lines = figures 1 2 0 1 ∷ figures 2 3 0 2 ∷ figures 2 4 0 2 ∷ []; spares = counted 2 0 (101 ∷ 0 ∷ 0 ∷ []) ∷ [] }
     ∷ record { sheet = sheetPairs 3 1; size = 24; crew = unreadable 11 3 27; tried = 0; lines = []; spares = record { cap = 2; spare = unreadable 11 3 19 } ∷ [] }
     ∷ record { sheet = sheetPairs 4 3; size = 24; crew = unreadable 4 0 27; tried = 0; lines = []; spares = record { cap = 2; spare = unreadable 4 0 19 } ∷ [] }
+    ∷ record { sheet = sheetWith 5 2 2 7; size = 24; crew = tags (10 ∷ 101 ∷ 20 ∷ 101 ∷ 30 ∷ 103 ∷ []); tried = 3; lines = linesW ++ (figures 5 2 2 2 ∷ []); spares = counted 2 0 (103 ∷ 0 ∷ 0 ∷ []) ∷ [] }
+    ∷ record { sheet = skippingWith 1 5 2 2 7; size = 16; crew = tags (10 ∷ 101 ∷ 30 ∷ 101 ∷ []); tried = 1; lines = figures 1 2 0 1 ∷ figures 1 1 0 1 ∷ figures 2 3 0 1 ∷ figures 5 2 2 2 ∷ []; spares = counted 2 1 (101 ∷ 102 ∷ 0 ∷ []) ∷ [] }
+    ∷ record { sheet = sheetWith 5 2 1 7; size = 24; crew = noPlan 27; tried = 64; lines = []; spares = noCount 2 ∷ [] }
+    ∷ record { sheet = sheetWith 6 2 2 7; size = 24; crew = unreadable 8 11 27; tried = 0; lines = []; spares = record { cap = 2; spare = unreadable 8 11 19 } ∷ [] }
     ∷ []
 
 -- "A planner of the first edition answers 4 to new sheets": W of version 2, with what it answers

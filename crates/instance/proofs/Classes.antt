@@ -11,8 +11,10 @@ use Rattle.bits.specs.Below.{first}
 use Rattle.bits.proofs.Below.{by-cases, true-false, and-right, first-le, first-has, first-none}
 use Rattle.bits.proofs.ColumnLaws.{column-entry}
 use Rattle.bits.proofs.Counting.{is-false}
-use Rattle.workflow.specs.Problem.{distinct}
+use Rattle.workflow.specs.Problem.{distinct, largestLoad}
+use Rattle.workflow.specs.Independent.{Alike}
 use Rattle.workflow.proofs.Counts.{distinct-alike}
+use Rattle.workflow.proofs.Loads.{load-alike}
 use Rattle.instance.specs.Instance.{isClassLevel, classAt}
 
 -- at a class level it is the entry of the table
@@ -62,5 +64,11 @@ module _ (c : ℕ → ℕ) where
   alike-tells : (s t : ℕ) → firstAlike c s ≡ firstAlike c t → c s ≡ c t
   alike-tells s t e = sym (alike-class s) ∙ ap c e ∙ alike-class t
 
+  labels-alike : (n : ℕ) (S : ℕ → Bool) → Alike n S (firstAlike c) c
+  labels-alike n S = record { forth = λ s t a b h k e. alike-tells s t e; back = λ s t a b h k e. alike-same s t e }
+
   pub alike-distinct : (n : ℕ) (S : ℕ → Bool) → distinct n S (firstAlike c) ≡ distinct n S c
-  alike-distinct n S = distinct-alike n S _ _ (record { forth = λ s t a b h k e. alike-tells s t e; back = λ s t a b h k e. alike-same s t e })
+  alike-distinct n S = distinct-alike n S _ _ (labels-alike n S)
+
+  pub alike-load : (n : ℕ) (S : ℕ → Bool) → largestLoad n S (firstAlike c) ≡ largestLoad n S c
+  alike-load n S = load-alike n S _ _ (labels-alike n S)

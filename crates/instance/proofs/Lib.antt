@@ -1,4 +1,4 @@
 pub mod Laws
-pub mod Counted
+pub mod Figured
 pub mod Classes
 pub mod Marked

@@ -24,7 +24,7 @@ use Rattle.sheet.proofs.Readable.{rule-card, sheet-levels}
 use Rattle.remaining.specs.Remaining.{skippedAt, keptOf, keptAt, stepsLeft, jobLeft}
 use Rattle.remaining.proofs.KeptLaws.{kept-below, kept-remains, kept-ordered, kept-every}
 use Rattle.remaining.proofs.Laws.{steps-left-length, permitted-left, scope-left, levels-left, column-left, kind-left, level-left, limit-left}
-use Rattle.workflow.specs.Problem.{May, Plan, Agree, Fits, Valid, Satisfiable, leastOf, mostOf}
+use Rattle.workflow.specs.Problem.{May, Plan, Agree, Fits, Valid, Satisfiable, leastOf, mostOf, heaviestOf}
 use Rattle.workflow.specs.First.{FirstValid}
 use Rattle.workflow.specs.Numbered.{kindIn}
 use Rattle.workflow.specs.Skipped.{ValidLeft, SatisfiableLeft, FirstValidLeft, ValidWhole}
@@ -53,7 +53,7 @@ module _ (s people steps rules : List ℕ) where
 
   module _ (read : readSheet s ≡ job people steps rules) where
     -- the table has the classes of the cards
-    class-same : (q p : ℕ) → p < length people → classNumber (jobLeft s people steps rules) q p ≡ classOn s people q p
+    pub class-same : (q p : ℕ) → p < length people → classNumber (jobLeft s people steps rules) q p ≡ classOn s people q p
     class-same q p l =
         let e = levels-left s people steps rules in
         let few = chains s (length s / 16) people steps rules (sheet-passes s people steps rules read .rest) .people-chain .short in
@@ -79,10 +79,12 @@ module _ (s people steps rules : List ℕ) where
           rules = refl;
           scope = λ i k l a. scope-left s people steps rules i k l ∙ bit-left k (hasBit (scopeOf s (getD rules i 0)) (keptAt s steps k)) a;
           least = λ i l.
-              ap₂ (λ (x y : ℕ). min (leastOf (kindIn x) y) (count left (instanceIn s people steps rules .rule i .scope)))
+              ap₂ (λ (x y : ℕ). min (leastOf (kindIn x) y (count left (instanceIn s people steps rules .rule i .scope))) (count left (instanceIn s people steps rules .rule i .scope)))
               (kind-left s people steps rules i l) (limit-left s people steps rules i l);
           most = λ i l.
               ap₂ (λ (x y : ℕ). min (mostOf (kindIn x) y left) left) (kind-left s people steps rules i l) (limit-left s people steps rules i l);
+          load = λ i l.
+              ap₂ (λ (x y : ℕ). min (heaviestOf (kindIn x) y left) left) (kind-left s people steps rules i l) (limit-left s people steps rules i l);
           class = λ i p l m.
               ap (λ (q : ℕ). classNumber (jobLeft s people steps rules) q p) (level-left s people steps rules i l)
               ∙ class-same (levelOf s (getD rules i 0)) p m;
@@ -131,8 +133,9 @@ fits zero limit size h = limit-cases 0 limit size h (λ a b c d. absurd (omega a
 fits (suc zero) limit size h = limit-cases 1 limit size h (λ a b c d. (c, d)) (λ a b c d e. absurd (omega arith))
 fits (suc (suc zero)) limit size h = limit-cases 2 limit size h (λ a b c d. (c, d)) (λ a b c d e. absurd (omega arith))
 fits (suc (suc (suc zero))) limit size h = limit-cases 3 limit size h (λ a b c d. absurd (omega arith)) (λ a b c d e. (c, d, e))
-fits (suc (suc (suc (suc n)))) limit size h =
-    limit-cases (suc (suc (suc (suc n)))) limit size h (λ a b c d. absurd (omega arith)) (λ a b c d e. (c, d, e))
+fits (suc (suc (suc (suc zero)))) limit size h = limit-cases 4 limit size h (λ a b c d. absurd (omega arith)) (λ a b c d e. (c, d, e))
+fits (suc (suc (suc (suc (suc n))))) limit size h =
+    limit-cases (suc (suc (suc (suc (suc n))))) limit size h (λ a b c d. absurd (omega arith)) (λ a b c d e. (c, d, e))
 
 module _ (s people steps rules : List ℕ) (read : readSheet s ≡ job people steps rules) where
   pub marked-fits : (i : ℕ) → i < length rules

@@ -1,3 +1,3 @@
 pub mod Instance
-pub mod Counts
+pub mod Figures
 pub mod Marked

@@ -17,7 +17,7 @@ use Rattle.instance.specs.Instance.{isClassLevel}
 abbrev pub classOn : List ℕ → List ℕ → ℕ → ℕ → ℕ
 classOn s people q p = cond (isClassLevel (levelsIn s) q) (classOf s q (getD people p 0)) p
 
--- "Rule: byte 1 rule kind 1 to 4; byte 4 level 1 to 3; byte 5 limit; bytes 6-7 scope, bit j for step j"
+-- "Rule: byte 1 rule kind 1 to 4; byte 4 level 1 to 3; byte 5 limit; bytes 6-7 scope, bit j for step j"; "Rule kind 5, in both versions"
 abbrev pub ruleOn : List ℕ → ℕ → CardRule
 ruleOn s c = record { kind = kindIn (ruleKindOf s c); level = levelOf s c; limit = limitOf s c; scope = hasBit (scopeOf s c) }
 

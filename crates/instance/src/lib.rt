@@ -1,4 +1,4 @@
-// The job of a readable sheet as an instance of the workflow satisfiability problem, stated in specs/; and the counts of its rules
+// The job of a readable sheet as an instance of the workflow satisfiability problem, stated in specs/; and the figures of its rules
 // for a plan.
-pub mod count;
-pub mod counts;
+pub mod figure;
+pub mod figures;

@@ -10,7 +10,7 @@ use borrow.Author.Tests.{eqb-true, eqb-false}
 use Rattle.bits.proofs.Below.{by-cases}
 use Rattle.bits.proofs.Copied.{Copied}
 use Rattle.bits.specs.Sizes.{classEntries}
-use Rattle.pattern.specs.Rule.{levelIn, leastIn, mostIn, scopeIn, Packed}
+use Rattle.pattern.specs.Rule.{levelIn, leastIn, mostIn, loadIn, scopeIn, Packed}
 use Rattle.pattern.specs.Tables.{classIn}
 use Rattle.levels.specs.Trims.{KeptLevels, OldLevels, Rows, Renumbered}
 
@@ -37,7 +37,7 @@ copied-rows n x old class class′ w l =
 
 -- one rule more has its new level
 pub renumbered-more : (n x : ℕ) (rule new rule′ : List ℕ) → n < 64
-    → Packed (getD new (levelIn (getD rule n 0)) 0 % 16) (leastIn (getD rule n 0)) (mostIn (getD rule n 0)) (scopeIn (getD rule n 0)) x
+    → Packed (getD new (levelIn (getD rule n 0)) 0 % 16) (leastIn (getD rule n 0)) (mostIn (getD rule n 0)) (loadIn (getD rule n 0)) (scopeIn (getD rule n 0)) x
     → Renumbered n rule new rule′ → Renumbered (n + 1) rule new (set rule′ n x)
 renumbered-more n x rule new rule′ l p w =
     record {
@@ -54,7 +54,7 @@ renumbered-more n x rule new rule′ l p w =
     }
   where
     Is : ℕ → ℕ → Type 0
-    Is i r = Packed (getD new (levelIn (getD rule i 0)) 0 % 16) (leastIn (getD rule i 0)) (mostIn (getD rule i 0)) (scopeIn (getD rule i 0)) r
+    Is i r = Packed (getD new (levelIn (getD rule i 0)) 0 % 16) (leastIn (getD rule i 0)) (mostIn (getD rule i 0)) (loadIn (getD rule i 0)) (scopeIn (getD rule i 0)) r
 
 -- the levels that are kept are levels in order
 pub old-levels : {levels marks n : ℕ} {old new : List ℕ} → KeptLevels levels marks n old new → OldLevels levels n old

@@ -64,6 +64,7 @@ module _ (size : Size) (n marks : ℕ) (class rule class′ rule′ old new : Li
         rules = refl;
         least = λ i l. renumbered .each i l .its-least;
         most = λ i l. renumbered .each i l .its-most;
+        load = λ i l. renumbered .each i l .its-load;
         scope = λ i s l. ap (λ (m : ℕ). hasBit m s) (renumbered .each i l .its-scope);
         classes = λ i p p′ l a b. (
           λ e. same-class i p l a ∙ e ∙ sym (same-class i p′ l b),

@@ -8,7 +8,7 @@ use Rattle.bits.specs.Word.{hasBit}
 use Rattle.bits.specs.Sizes.{levelEntries, classEntries}
 use Rattle.workflow.specs.Same.{SamePlans}
 use Rattle.pattern.specs.declared.Size.{Size}
-use Rattle.pattern.specs.Rule.{levelIn, leastIn, mostIn, scopeIn, Packed}
+use Rattle.pattern.specs.Rule.{levelIn, leastIn, mostIn, loadIn, scopeIn, Packed}
 use Rattle.pattern.specs.Tables.{classIn, jobIn}
 use Rattle.levels.specs.declared.Tables.{Tables}
 use Rattle.levels.specs.Tabled.{tabledJob, Ready}
@@ -50,7 +50,7 @@ pub record Rows (n : ℕ) (old class class′ : List ℕ) : Type 0 where
 pub record Renumbered (n : ℕ) (rule new rule′ : List ℕ) : Type 0 where
   pub sized : length rule′ ≡ 64
   pub each : (i : ℕ) → i < n
-      → Packed (getD new (levelIn (getD rule i 0)) 0 % 16) (leastIn (getD rule i 0)) (mostIn (getD rule i 0)) (scopeIn (getD rule i 0)) (getD rule′ i 0)
+      → Packed (getD new (levelIn (getD rule i 0)) 0 % 16) (leastIn (getD rule i 0)) (mostIn (getD rule i 0)) (loadIn (getD rule i 0)) (scopeIn (getD rule i 0)) (getD rule′ i 0)
 
 -- the tables are a job with the same valid plans; each of its levels has the numbers of one that there was
 pub record Trims (size : Size) (class rule : List ℕ) (t : Tables) : Type 0 where

@@ -2,7 +2,7 @@
 ghost use mathlib.Core.Path.{_≡_};
 ghost use Prim.Native.Nat.{_≤_};
 ghost use lib.ListN.{length};
-ghost use Rattle.instance.specs.Counts.{Staffed};
+ghost use Rattle.instance.specs.Figures.{Staffed};
 use bits::sizes::Plan;
 use bits::sizes::RuleBytes;
 use libc::STDOUT_FILENO;
@@ -49,24 +49,24 @@ pub fn write_plan(job: SheetJob, steps: usize, plan: &Plan)
     }
 }
 
-// A line for a rule: "`RULE`, its kind, level, limit and count."
-fn write_rule(kind: u8, level: u8, limit: u8, count: u8) {
+// A line for a rule: "`RULE`, its kind, level, limit and count"; for kind 5 "the largest number held by one class".
+fn write_rule(kind: u8, level: u8, limit: u8, last: u8) {
     text(b"RULE");
     figure(kind as usize);
     figure(level as usize);
     figure(limit as usize);
-    figure(count as usize);
+    figure(last as usize);
     text(b"\n");
 }
 
-// A line for each rule: kind, level and limit as its card has them, and its count for the plan.
-pub fn write_rules(job: SheetJob, rules: usize, counts: &RuleBytes)
-    requires { ⌜ (rules ≤ 64) × (length (now counts) ≡ 64) ⌝ }
+// A line for each rule: kind, level and limit as its card has them, and its figure for the plan.
+pub fn write_rules(job: SheetJob, rules: usize, figures: &RuleBytes)
+    requires { ⌜ (rules ≤ 64) × (length (now figures) ≡ 64) ⌝ }
 {
     let kind = job.rule_kind;
     let level = job.rule_level;
     let limit = job.rule_limit;
     for i in 0..rules {
-        write_rule(kind[i], level[i], limit[i], counts[i]);
+        write_rule(kind[i], level[i], limit[i], figures[i]);
     }
 }

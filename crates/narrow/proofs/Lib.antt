@@ -4,4 +4,5 @@ pub mod Spreading
 pub mod Parting
 pub mod Ruling
 pub mod Restricting
+pub mod Loading
 pub mod Passing

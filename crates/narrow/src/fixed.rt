@@ -20,7 +20,7 @@ pub struct Forced {
 }
 
 // The people of the class that all of a domain share, or nobody where they share none.
-fn shared(crowd: &Crowds, level: usize, domain: u64) -> u64
+pub fn shared(crowd: &Crowds, level: usize, domain: u64) -> u64
     requires { ⌜ OneLevel (now crowd) level ⌝ }
     ensures { λ r. ⌜ ForClasses (now (crowd .entry)) level (λ people c. Shared people c domain r) ⌝ }
 {

@@ -1,9 +1,12 @@
-// Domains narrowed by one rule: where its count is at the upper end, or steps that are apart bring it
-// there, the open steps join the classes that there are; where it is at the lower end, they avoid them.
+// Domains narrowed by one rule, by its count and then by its load. Where the count is at the upper end, or steps that are
+// apart bring it there, the open steps join the classes that there are; at the lower end, they avoid them.
 use super::apart::apart;
 use super::apart::reach;
 use super::fixed::Forced;
 use super::fixed::fixed;
+use super::load::by_load;
+use super::restrict::Revision;
+use super::restrict::restrict;
 use super::spread::spread;
 use bits::set::ALL;
 use bits::sizes::Crowds;
@@ -18,14 +21,8 @@ ghost use lib.Count.{ones};
 ghost use Rattle.pattern.specs.Rule.{levelIn, mostIn, scopeIn, unpacked};
 ghost use Rattle.eligible.specs.Classes.{OneLevel, ForClasses, ForJobs};
 ghost use Rattle.narrow.specs.Domains.{Revised};
-ghost use Rattle.narrow.specs.Narrowing.{Common, AskedOnly, Restricted, Hopeless, Allowed};
+ghost use Rattle.narrow.specs.Narrowing.{Common, AskedOnly, Hopeless, Allowed};
 ghost use Rattle.narrow.specs.Parting.{Limited};
-
-// Whether a rule can no longer be met, and the steps whose domains are smaller now.
-pub struct Revision {
-    pub failed: bool,
-    pub changed: u16,
-}
 
 // Everybody who shares a class with somebody of the domain of each of these steps.
 fn common(crowd: &Crowds, level: usize, steps: u16, dom: &Domains) -> u64
@@ -120,39 +117,8 @@ fn allowed(crowd: &Crowds, r: u32, forced: Forced, dom: &Domains) -> u64
     left_to(forced.used, groups, open, rule::least(r), highest)
 }
 
-// Leaves these steps only such people; fails where a step has nobody left.
-fn restrict(steps: u16, people: u64, dom: &mut Domains) -> Revision
-    requires { ⌜ (steps < 4096) × (length (now dom) ≡ 12) ⌝ }
-    ensures { λ r. ⌜ Restricted steps people (now (dom .entry)) (now (dom .exit)) (r .failed) (r .changed) ⌝ }
-{
-    let mut changed: u16 = 0;
-    let mut left = steps;
-    while left != 0 {
-        let next = small::take(left);
-        left = next.rest;
-        let s = next.first;
-        let domain = dom[s];
-        let rest = domain & people;
-        if rest == domain {
-            continue;
-        }
-        if rest == 0 {
-            return Revision {
-                failed: true,
-                changed: changed,
-            };
-        }
-        dom[s] = rest;
-        changed = small::with(changed, s);
-    }
-    Revision {
-        failed: false,
-        changed: changed,
-    }
-}
-
-// Narrows the domains by one rule.
-pub fn revise(crowd: &Crowds, r: u32, dom: &mut Domains) -> Revision
+// Narrows the domains by how many classes a rule asks for.
+fn by_count(crowd: &Crowds, r: u32, dom: &mut Domains) -> Revision
     requires { ⌜ OneLevel (now crowd) (levelIn r) × (scopeIn r < 4096) × (length (now dom) ≡ 12) ⌝ }
     ensures { λ a. ⌜ ForJobs (now (crowd .entry)) r (λ j. Revised j (unpacked r) (now (dom .entry)) (now (dom .exit)) (a .failed))
         × (a .changed < 4096) ⌝ }
@@ -166,4 +132,24 @@ pub fn revise(crowd: &Crowds, r: u32, dom: &mut Domains) -> Revision
     }
     let people = allowed(crowd, r, forced, dom);
     restrict(forced.wide, people, dom)
+}
+
+// Narrows the domains by one rule. Where no class can hold too many steps, its load asks for nothing.
+pub fn revise(crowd: &Crowds, r: u32, dom: &mut Domains) -> Revision
+    requires { ⌜ OneLevel (now crowd) (levelIn r) × (scopeIn r < 4096) × (length (now dom) ≡ 12) ⌝ }
+    ensures { λ a. ⌜ ForJobs (now (crowd .entry)) r (λ j. Revised j (unpacked r) (now (dom .entry)) (now (dom .exit)) (a .failed))
+        × (a .changed < 4096) ⌝ }
+{
+    let first = by_count(crowd, r, dom);
+    if first.failed {
+        return first;
+    }
+    if !rule::limits_load(r) {
+        return first;
+    }
+    let second = by_load(crowd, r, dom);
+    Revision {
+        failed: second.failed,
+        changed: first.changed | second.changed,
+    }
 }

@@ -25,6 +25,7 @@ same-classes size rule c d w alike =
       rules = refl;
       least = λ i l. refl;
       most = λ i l. refl;
+      load = λ i l. refl;
       scope = λ i s l. refl;
       classes = λ i p p′ l h h′. let k = w .rule-ok i l in alike _ p p′ (k .from) (k .to) h h′;
     })

@@ -10,11 +10,12 @@ use Rattle.bits.proofs.Counting.{and-of, is-false, bool-ext, count-cong, count-
 use Rattle.workflow.specs.Problem.{Rule, RuleOk, distinct}
 use Rattle.workflow.proofs.Counts.{distinct-cong}
 use Rattle.workflow.proofs.Labels.{Adds}
+use Rattle.workflow.proofs.Loads.{load-cong}
 use Rattle.workflow.proofs.Occurs.{occurs, occurs-of, occurs-at, distinct-occurs}
 use Rattle.pattern.specs.Pattern.{Label, Pattern}
 use Rattle.pattern.specs.Place.{withStep, grown, Way}
-use Rattle.pattern.specs.Eligible.{groupCount, openCount}
-use Rattle.pattern.proofs.Same.{distinct-scope-cong}
+use Rattle.pattern.specs.Eligible.{groupCount, groupLoad, openCount}
+use Rattle.pattern.proofs.Same.{distinct-scope-cong, load-scope-cong}
 use Rattle.pattern.proofs.Place.{with-own, with-old, with-cases, grown-placed, grown-pattern}
 
 module _ (n bound : ℕ) (part whole : ℕ → Bool) (c : ℕ → ℕ) (s : ℕ) (adds : Adds n part whole s)
@@ -86,14 +87,25 @@ module _ (steps levels : ℕ) (placed : ℕ → Bool) (label : Label) (pattern :
         distinct-cong steps (λ u. r .scope u && placed u) (label (r .level)) (grown label s t d (r .level))
         (λ u l h. sym (grown-placed steps levels placed label pattern s below unplaced t d (r .level) u (and-right (r .scope u) _ h)))
 
-    -- a step outside the scope adds no group
+    -- a step outside the scope is none of the scope's
+    outside : r .scope s ≡ false → (u : ℕ) → u < steps → r .scope u && withStep placed s u ≡ r .scope u && placed u
+    outside o u l =
+        by-cases (eqb u s)
+        (λ x. rw (eqb-true u s x, o) refl)
+        (λ x. ap (λ (b : Bool). r .scope u && b) (sym (same-elsewhere u (eqb-false u s x))))
+
+    -- so it adds no group
     pub group-count-outside : r .scope s ≡ false → groupCount steps (withStep placed s) (grown label s t d) r ≡ groupCount steps placed label r
     group-count-outside o =
-        distinct-scope-cong steps (λ u. r .scope u && withStep placed s u) (λ u. r .scope u && placed u) (grown label s t d (r .level))
-        (λ u l. by-cases (eqb u s)
-        (λ x. rw (eqb-true u s x, o) refl)
-        (λ x. ap (λ (b : Bool). r .scope u && b) (sym (same-elsewhere u (eqb-false u s x)))))
+        distinct-scope-cong steps (λ u. r .scope u && withStep placed s u) (λ u. r .scope u && placed u) (grown label s t d (r .level)) (outside o)
         ∙ sym before
+
+    -- and no group holds more
+    pub group-load-outside : r .scope s ≡ false → groupLoad steps (withStep placed s) (grown label s t d) r ≡ groupLoad steps placed label r
+    group-load-outside o =
+        load-scope-cong steps (λ u. r .scope u && withStep placed s u) (λ u. r .scope u && placed u) (grown label s t d (r .level)) (outside o)
+        ∙ load-cong steps (λ u. r .scope u && placed u) (grown label s t d (r .level)) (label (r .level))
+        (λ u l h. grown-placed steps levels placed label pattern s below unplaced t d (r .level) u (and-right (r .scope u) _ h))
 
     adds : r .scope s ≡ true → Adds steps (λ u. r .scope u && placed u) (λ u. r .scope u && withStep placed s u) s
     adds i =

@@ -11,8 +11,10 @@ use borrow.Author.Tests.{eqb-true, eqb-false, eq-eqb, ltb-true, ltb-false}
 use Rattle.bits.specs.Below.{any, first, count}
 use Rattle.bits.proofs.Below.{by-cases, below-suc, true-false, first-has, first-none, first-cong}
 use Rattle.bits.proofs.Counting.{bool-ext, count-true, count-false, count-grows}
-use Rattle.workflow.specs.Problem.{Plan, opens, distinct}
+use Rattle.workflow.specs.Problem.{Plan, opens, distinct, largestLoad}
+use Rattle.workflow.specs.Independent.{Alike}
 use Rattle.workflow.proofs.Counts.{opens-new, opens-of, distinct-alike, distinct-le}
+use Rattle.workflow.proofs.Loads.{load-alike}
 use Rattle.pattern.specs.Number.{firstUse, classesBefore, numberOf, Numbering}
 
 -- ---- numbers below a bound
@@ -63,15 +65,22 @@ module _ (people : ℕ) (c : ℕ → ℕ) where
   pub use-tells : (p p′ : ℕ) → p < people → p′ < people → firstUse people c p ≡ firstUse people c p′ → c p ≡ c p′
   use-tells p p′ l l′ e = sym (use-class p l) ∙ ap c e ∙ use-class p′ l′
 
-  -- people have as many first uses as classes
-  pub uses-distinct : (n : ℕ) (S : ℕ → Bool) (π : Plan) → ((s : ℕ) → s < n → S s ≡ true → π s < people)
-      → distinct n S (λ s. firstUse people c (π s)) ≡ distinct n S (λ s. c (π s))
-  uses-distinct n S π within =
-      distinct-alike n S _ _
-      (record {
-        forth = λ s t a b h k e. use-tells (π s) (π t) (within s a h) (within t b k) e;
-        back = λ s t a b h k e. use-same (π s) (π t) e;
-      })
+  -- first uses tell the classes of a plan's people apart
+  module _ (n : ℕ) (S : ℕ → Bool) (π : Plan) (within : (s : ℕ) → s < n → S s ≡ true → π s < people) where
+    uses-alike : Alike n S (λ s. firstUse people c (π s)) (λ s. c (π s))
+    uses-alike =
+        record {
+          forth = λ s t a b h k e. use-tells (π s) (π t) (within s a h) (within t b k) e;
+          back = λ s t a b h k e. use-same (π s) (π t) e;
+        }
+
+    -- so there are as many of them
+    pub uses-distinct : distinct n S (λ s. firstUse people c (π s)) ≡ distinct n S (λ s. c (π s))
+    uses-distinct = distinct-alike n S _ _ uses-alike
+
+    -- and they hold as many steps
+    pub uses-load : largestLoad n S (λ s. firstUse people c (π s)) ≡ largestLoad n S (λ s. c (π s))
+    uses-load = load-alike n S _ _ uses-alike
 
   -- ---- the classes met
 

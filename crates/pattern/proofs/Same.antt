@@ -6,11 +6,13 @@ use Prim.Native.Nat.{ℕ, suc, _≤_, _<_}
 use native.Mathlib.Omega.{arith}
 use Rattle.bits.proofs.Below.{and-right}
 use Rattle.bits.proofs.Counting.{count-cong}
-use Rattle.workflow.specs.Problem.{Rule, Job, May, Plan, InBounds, RuleOk, distinct}
+use Rattle.workflow.specs.Problem.{Rule, Job, May, Plan, RuleOk, distinct, largestLoad}
 use Rattle.workflow.proofs.Counts.{distinct-cong}
+use Rattle.workflow.proofs.Loads.{load-cong, load-scope-mono}
 use Rattle.workflow.proofs.Occurs.{distinct-scope-mono}
+use Rattle.workflow.proofs.Valid.{bounds-same}
 use Rattle.pattern.specs.Pattern.{Label, Labelled, Pattern, Has, SamePattern}
-use Rattle.pattern.specs.Eligible.{groupCount, openCount, Possible}
+use Rattle.pattern.specs.Eligible.{groupCount, groupLoad, openCount, Possible}
 use Rattle.pattern.specs.Realize.{Realized}
 use Rattle.pattern.specs.Search.{Searchable, Exists, Complete}
 use Rattle.pattern.proofs.Patterns.{has-cong, has-part}
@@ -21,6 +23,13 @@ pub distinct-scope-cong : (n : ℕ) (scope scope′ : ℕ → Bool) (c : ℕ →
 distinct-scope-cong n scope scope′ c e =
     let a : distinct n scope c ≤ distinct n scope′ c = distinct-scope-mono n c scope scope′ (λ s l h. sym (e s l) ∙ h) in
     let b : distinct n scope′ c ≤ distinct n scope c = distinct-scope-mono n c scope′ scope (λ s l h. e s l ∙ h) in
+    omega arith
+
+-- a largest load over equal scopes
+pub load-scope-cong : (n : ℕ) (scope scope′ : ℕ → Bool) (c : ℕ → ℕ) → ((s : ℕ) → s < n → scope s ≡ scope′ s) → largestLoad n scope c ≡ largestLoad n scope′ c
+load-scope-cong n scope scope′ c e =
+    let a = load-scope-mono n c scope scope′ (λ s l h. sym (e s l) ∙ h) in
+    let b = load-scope-mono n c scope′ scope (λ s l h. e s l ∙ h) in
     omega arith
 
 module _ (steps levels : ℕ) (placed placed′ : ℕ → Bool) (label label′ : Label) (same : SamePattern steps levels placed placed′ label label′) where
@@ -69,14 +78,24 @@ module _ (steps levels : ℕ) (placed placed′ : ℕ → Bool) (label label′ 
       ∙ distinct-scope-cong steps (λ s. r .scope s && placed s) (λ s. r .scope s && placed′ s) (label′ (r .level))
       (λ s l. ap (λ (b : Bool). r .scope s && b) (same .sets s l))
 
+  pub group-load-same : (r : Rule) → RuleOk steps levels r → groupLoad steps placed label r ≡ groupLoad steps placed′ label′ r
+  group-load-same r ok =
+      load-cong steps (λ s. r .scope s && placed s) (label (r .level)) (label′ (r .level))
+      (λ s l h. same .labels (r .level) s (ok .from) (ok .to) l (and-right (r .scope s) _ h))
+      ∙ load-scope-cong steps (λ s. r .scope s && placed s) (λ s. r .scope s && placed′ s) (label′ (r .level))
+      (λ s l. ap (λ (b : Bool). r .scope s && b) (same .sets s l))
+
   pub open-count-same : (r : Rule) → openCount steps placed r ≡ openCount steps placed′ r
   open-count-same r = count-cong steps _ _ (λ s l. ap (λ (b : Bool). r .scope s && not b) (same .sets s l))
 
   pub possible-same : (r : Rule) → RuleOk steps levels r → Possible steps placed label r → Possible steps placed′ label′ r
   possible-same r ok w =
       record {
-        most = omega (arith, w .most, group-count-same r ok);
-        least = omega (arith, w .least, group-count-same r ok, open-count-same r);
+        counted = record {
+          most = omega (arith, w .counted .most, group-count-same r ok);
+          least = omega (arith, w .counted .least, group-count-same r ok, open-count-same r);
+        };
+        load = omega (arith, w .load, group-load-same r ok);
       }
 
 module _ (j : Job) (placed placed′ : ℕ → Bool) (label label′ : Label) (same : SamePattern (j .steps) (j .levels) placed placed′ label label′) where
@@ -97,8 +116,9 @@ module _ (j : Job) (placed placed′ : ℕ → Bool) (label label′ : Label) (s
   complete-same may ok w =
       record {
         eligible = λ i l.
-            subst (InBounds (j .rule i))
-            (group-count-same (j .steps) (j .levels) placed placed′ label label′ same (j .rule i) (ok .rule-ok i l)) (w .eligible i l);
+            bounds-same (j .rule i)
+            (group-count-same (j .steps) (j .levels) placed placed′ label label′ same (j .rule i) (ok .rule-ok i l))
+            (group-load-same (j .steps) (j .levels) placed placed′ label label′ same (j .rule i) (ok .rule-ok i l)) (w .eligible i l);
         realized = realized-same may (λ p. true) (w .realized);
         others = λ s l h. w .others s l (same .sets s l ∙ h);
       }

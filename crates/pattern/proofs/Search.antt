@@ -8,7 +8,7 @@ use Rattle.bits.proofs.Below.{by-cases, true-false}
 use Rattle.workflow.specs.Problem.{Job, May, Plan, InBounds, Valid, Satisfiable}
 use Rattle.pattern.specs.Pattern.{Label, Pattern, Refining, Has}
 use Rattle.pattern.specs.Place.{withStep, grown, Way}
-use Rattle.pattern.specs.Eligible.{groupCount, Possible, AllNamed}
+use Rattle.pattern.specs.Eligible.{groupCount, groupLoad, Possible, AllNamed}
 use Rattle.pattern.specs.Realize.{Realizes, Realized}
 use Rattle.pattern.specs.Search.{Searchable, Exists, Complete, completed}
 use Rattle.pattern.proofs.Sets.{choice}
@@ -78,7 +78,7 @@ module _ (j : Job) (may : May) (placed : ℕ → Bool) (label : Label) (ok : Sea
 
   -- the plan found: that of the placed steps, and anybody permitted for the others
   pub completed-exists : (π σ : Plan) → Realizes j may label 0 placed (λ p. true) π
-      → ((i : ℕ) → i < j .rules → InBounds (j .rule i) (groupCount (j .steps) placed label (j .rule i)))
+      → ((i : ℕ) → i < j .rules → InBounds (j .rule i) (groupCount (j .steps) placed label (j .rule i)) (groupLoad (j .steps) placed label (j .rule i)))
       → ((s : ℕ) → s < j .steps → placed s ≡ false → (σ s < j .people) × (may s (σ s) ≡ true))
       → Valid j may (completed placed π σ) × Has j placed label (completed placed π σ)
   completed-exists π σ r exact others = (

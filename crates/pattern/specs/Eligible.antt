@@ -3,12 +3,16 @@ use mathlib.Core.Bool.{Bool, false, not, _&&_}
 use mathlib.Core.Path.{_≡_}
 use Prim.Native.Nat.{ℕ, _+_, _≤_, _<_}
 use Rattle.bits.specs.Below.{count}
-use Rattle.workflow.specs.Problem.{Rule, Job, distinct}
+use Rattle.workflow.specs.Problem.{Rule, Job, distinct, largestLoad}
 use Rattle.pattern.specs.Pattern.{Label}
 
 -- the number of groups of the rule's level over the placed steps of its scope
 abbrev pub groupCount : ℕ → (ℕ → Bool) → Label → Rule → ℕ
 groupCount steps placed label r = distinct steps (λ s. r .scope s && placed s) (label (r .level))
+
+-- the largest number of placed steps of its scope in one group
+abbrev pub groupLoad : ℕ → (ℕ → Bool) → Label → Rule → ℕ
+groupLoad steps placed label r = largestLoad steps (λ s. r .scope s && placed s) (label (r .level))
 
 -- the number of steps of the scope that are not placed
 abbrev pub openCount : ℕ → (ℕ → Bool) → Rule → ℕ
@@ -19,9 +23,10 @@ pub record CanBeMet (r : Rule) (n more : ℕ) : Type 0 where
   pub most : n ≤ r .most
   pub least : r .least ≤ n + more
 
--- the rule can still be met: the groups are not too many, and would not be too few if each open step opened one
-abbrev pub Possible : ℕ → (ℕ → Bool) → Label → Rule → Type 0
-Possible steps placed label r = CanBeMet r (groupCount steps placed label r) (openCount steps placed r)
+-- the rule can still be met: the groups are not too many, and would not be too few if each open step opened one; and none holds too many steps
+pub record Possible (steps : ℕ) (placed : ℕ → Bool) (label : Label) (r : Rule) : Type 0 where
+  pub counted : CanBeMet r (groupCount steps placed label r) (openCount steps placed r)
+  pub load : groupLoad steps placed label r ≤ r .load
 
 -- every step that some rule names is placed
 abbrev pub AllNamed : Job → (ℕ → Bool) → Type 0

@@ -4,7 +4,7 @@ use mathlib.Core.Path.{_≡_}
 use Prim.Native.Nat.{ℕ, _<_}
 use Rattle.workflow.specs.Problem.{Job, May, Plan, InBounds, RuleOk, Valid}
 use Rattle.pattern.specs.Pattern.{Label, Refining, Has}
-use Rattle.pattern.specs.Eligible.{groupCount}
+use Rattle.pattern.specs.Eligible.{groupCount, groupLoad}
 use Rattle.pattern.specs.Realize.{Realized}
 
 -- what the search knows of a job
@@ -20,7 +20,8 @@ pub record Exists (j : Job) (may : May) (placed : ℕ → Bool) (label : Label) 
 
 -- the pattern is that of a valid plan as far as tests on it can tell
 pub record Complete (j : Job) (may : May) (placed : ℕ → Bool) (label : Label) : Type 0 where
-  pub eligible : (i : ℕ) → i < j .rules → InBounds (j .rule i) (groupCount (j .steps) placed label (j .rule i))
+  pub eligible : (i : ℕ) → i < j .rules
+      → InBounds (j .rule i) (groupCount (j .steps) placed label (j .rule i)) (groupLoad (j .steps) placed label (j .rule i))
   pub realized : Realized j may label 0 placed (λ p. true)
   pub others : (s : ℕ) → s < j .steps → placed s ≡ false → (p : ℕ) × (p < j .people) × (may s p ≡ true)
 

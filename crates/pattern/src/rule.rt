@@ -1,9 +1,12 @@
-// A rule as one number: the mask of its scope in 16 bits, then its level, the least and the greatest count,
-// four bits each. And the comparison of a count with them.
+// A rule as one number: the mask of its scope in 16 bits, then its level, the least and the greatest count and
+// the greatest load, four bits each. And the comparison of a count with them.
+use bits::small;
 ghost use mathlib.Core.Path.{_≡_};
 ghost use Prim.Native.Nat.{_<_, _≤_};
+ghost use lib.Count.{ones};
+ghost use lib.Dec.{ltb};
 ghost use Rattle.bits.specs.Says.{Says};
-ghost use Rattle.pattern.specs.Rule.{scopeIn, levelIn, leastIn, mostIn, unpacked, Packed};
+ghost use Rattle.pattern.specs.Rule.{scopeIn, levelIn, leastIn, mostIn, loadIn, unpacked, Packed};
 ghost use Rattle.pattern.specs.Eligible.{CanBeMet};
 
 // The mask of the steps of its scope.
@@ -34,6 +37,20 @@ pub fn most(rule: u32) -> usize
     (rule / 16777216 % 16) as usize
 }
 
+// Its greatest load: how many steps of its scope one class may hold.
+pub fn load(rule: u32) -> usize
+    ensures { λ r. ⌜ (r ≡ loadIn rule) × (r < 16) ⌝ }
+{
+    (rule / 268435456 % 16) as usize
+}
+
+// Whether a class can hold more steps of a rule's scope than it may: where the greatest load is that of all of them, no class does.
+pub fn limits_load(rule: u32) -> bool
+    ensures { λ r. ⌜ r ≡ ltb (loadIn rule) (ones (scopeIn rule)) ⌝ }
+{
+    load(rule) < small::size(scope(rule))
+}
+
 // Whether a rule can be met with this count, which may still grow by `more`.
 pub fn can_be_met(rule: u32, count: usize, more: usize) -> bool
     requires { ⌜ (count ≤ 64) × (more ≤ 64) ⌝ }
@@ -46,17 +63,21 @@ pub fn can_be_met(rule: u32, count: usize, more: usize) -> bool
 }
 
 // The number of a rule.
-pub fn pack(level: usize, least: usize, most: usize, scope: u16) -> u32
-    requires { ⌜ (level < 16) × (least < 16) × (most < 16) ⌝ }
-    ensures { λ r. ⌜ Packed level least most scope r ⌝ }
+pub fn pack(level: usize, least: usize, most: usize, load: usize, scope: u16) -> u32
+    requires { ⌜ (level < 16) × (least < 16) × (most < 16) × (load < 16) ⌝ }
+    ensures { λ r. ⌜ Packed level least most load scope r ⌝ }
 {
-    scope as u32 + 65536 * level as u32 + 1048576 * least as u32 + 16777216 * most as u32
+    scope as u32
+        + 65536 * level as u32
+        + 1048576 * least as u32
+        + 16777216 * most as u32
+        + 268435456 * load as u32
 }
 
 // The rule at another level.
 pub fn moved(rule: u32, level: usize) -> u32
     requires { ⌜ level < 16 ⌝ }
-    ensures { λ r. ⌜ Packed level (leastIn rule) (mostIn rule) (scopeIn rule) r ⌝ }
+    ensures { λ r. ⌜ Packed level (leastIn rule) (mostIn rule) (loadIn rule) (scopeIn rule) r ⌝ }
 {
-    pack(level, least(rule), most(rule), scope(rule))
+    pack(level, least(rule), most(rule), load(rule), scope(rule))
 }

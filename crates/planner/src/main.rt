@@ -1,4 +1,4 @@
-// The planning program: one sheet from standard input; its crew, its spare count with cap 2, and the count of each rule for that
+// The planning program: one sheet from standard input; its crew, its spare count with cap 2, and the figure of each rule for that
 // crew to standard output.
 ghost use mathlib.Core.Path.{_≡_};
 ghost use Prim.Native.Nat.{_+_, _<_, _≤_};
@@ -10,7 +10,7 @@ use bits::byte_at;
 use bits::sizes::MOST_BYTES;
 use card::refusal::PLAN_FAULT;
 use crew::plan_job;
-use instance::counts::rule_counts;
+use instance::figures::rule_figures;
 use libc::STDIN_FILENO;
 use listing::figure;
 use listing::text;
@@ -63,7 +63,7 @@ fn write_spare(bytes: &[u8; SPARE])
     }
 }
 
-// The answer to a sheet: a refusal, or the plan, the spare count and the count of each rule for the plan.
+// The answer to a sheet: a refusal, or the plan, the spare count and the figure of each rule for the plan.
 fn write_answer(sheet: &[u8]) {
     let read = read_job(sheet);
     let reading = read.reading;
@@ -91,8 +91,8 @@ fn write_answer(sheet: &[u8]) {
     }
     write_plan(job, steps, &plan);
     write_spare(&away);
-    let counts = rule_counts(job, rules, &plan);
-    write_rules(job, rules, &counts);
+    let figures = rule_figures(job, rules, &plan);
+    write_rules(job, rules, &figures);
 }
 
 fn main() {

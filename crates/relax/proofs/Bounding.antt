@@ -34,7 +34,7 @@ count-into n bound f g c below into differ =
     omega arith
 
 -- the numbers before one that has f are fewer than those before a later one
-count-before : (m n : ℕ) (f : ℕ → Bool) → f m ≡ true → m < n → count m f < count n f
+pub count-before : (m n : ℕ) (f : ℕ → Bool) → f m ≡ true → m < n → count m f < count n f
 count-before m zero f h l = absurd (not-suc-le-zero l)
 count-before m (suc n) f h l =
     below-suc n m l

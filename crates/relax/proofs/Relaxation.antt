@@ -6,7 +6,7 @@ use native.Mathlib.Omega.{arith}
 use lib.ListN.{getD}
 use Rattle.bits.specs.Below.{count}
 use Rattle.bits.specs.Word.{hasBit}
-use Rattle.workflow.specs.Problem.{RuleOk, Job, Plan, Met, InBounds, distinct}
+use Rattle.workflow.specs.Problem.{RuleOk, Job, Plan, Met, InBounds, distinct, largestLoad}
 use Rattle.pattern.specs.declared.Size.{Size}
 use Rattle.pattern.specs.Given.{Ruled, Classed}
 use Rattle.pattern.specs.Rule.{levelIn, scopeIn, unpacked}
@@ -29,12 +29,16 @@ module _ (size : Size) (class rule : List ℕ) (given : Classed size class rule)
       in
       record { from = omega (arith, f .level); to = omega (arith, f .level); reachable = omega (arith, f .reachable); bounded = f .bounded }
 
+  -- the bounds of a rule hold of the classes of a level over a scope
+  abbrev FiguresOk : ℕ → ℕ → ℕ → Plan → Type 0
+  FiguresOk r scope q π =
+      InBounds (unpacked r) (distinct (size .steps) (hasBit scope) (λ s. classIn class q (π s))) (largestLoad (size .steps) (hasBit scope) (λ s. classIn class q (π s)))
+
   relaxed-met : (i : ℕ) → i < size .rules → (π : Plan) → ((s : ℕ) → s < size .steps → π s < size .people) → Met whole (whole .rule i) π → Met relaxed (relaxed .rule i) π
   relaxed-met i l π within m =
       let f = w .follows i l in
-      subst (λ (k : ℕ). InBounds (unpacked (getD rule′ i 0)) (distinct (size .steps) (hasBit k) (λ s. classIn class (levelIn (getD rule′ i 0)) (π s)))) (sym (f .scope))
-      (subst (λ (k : ℕ). InBounds (unpacked (getD rule′ i 0)) (distinct (size .steps) (hasBit (scopeIn (getD rule i 0))) (λ s. classIn class k (π s)))) (sym (f .level))
-      (f .met π within m))
+      let r′ = getD rule′ i 0 in
+      subst (λ (k : ℕ). FiguresOk r′ k (levelIn r′) π) (sym (f .scope)) (subst (λ (k : ℕ). FiguresOk r′ (scopeIn (getD rule i 0)) k π) (sym (f .level)) (f .met π within m))
 
   ruled-now : Ruled size rule′
   ruled-now =

@@ -6,7 +6,7 @@ use lib.ListN.{length, getD}
 use Rattle.bits.specs.Below.{count}
 use Rattle.bits.specs.Word.{hasBit}
 use Rattle.bits.specs.Sizes.{mostLevels, classEntries}
-use Rattle.workflow.specs.Problem.{May, Plan, Valid, InBounds, RuleOk, distinct}
+use Rattle.workflow.specs.Problem.{May, Plan, Valid, InBounds, RuleOk, distinct, largestLoad}
 use Rattle.pattern.specs.declared.Size.{Size}
 use Rattle.pattern.specs.Given.{Classed}
 use Rattle.pattern.specs.Rule.{levelIn, leastIn, mostIn, scopeIn, unpacked}
@@ -29,6 +29,10 @@ pub record Carriable (size : Size) (class : List ℕ) (r q : ℕ) : Type 0 where
 abbrev pub countAt : Size → List ℕ → ℕ → ℕ → Plan → ℕ
 countAt size class r q π = distinct (size .steps) (hasBit (scopeIn r)) (λ s. classIn class q (π s))
 
+-- the largest load of a class of a level, over the same scope
+abbrev pub loadAt : Size → List ℕ → ℕ → ℕ → Plan → ℕ
+loadAt size class r q π = largestLoad (size .steps) (hasBit (scopeIn r)) (λ s. classIn class q (π s))
+
 -- what rule r says of level q: a rule r′ of that level for the same scope, which every plan meets that meets r
 pub record Follows (size : Size) (class : List ℕ) (q r r′ : ℕ) : Type 0 where
   pub level : levelIn r′ ≡ q
@@ -36,7 +40,8 @@ pub record Follows (size : Size) (class : List ℕ) (q r r′ : ℕ) : Type 0 wh
   pub reachable : leastIn r′ ≤ count (size .steps) (hasBit (scopeIn r))
   pub bounded : mostIn r′ ≤ size .steps
   pub met : (π : Plan) → ((s : ℕ) → s < size .steps → π s < size .people)
-      → InBounds (unpacked r) (countAt size class r (levelIn r) π) → InBounds (unpacked r′) (countAt size class r q π)
+      → InBounds (unpacked r) (countAt size class r (levelIn r) π) (loadAt size class r (levelIn r) π)
+      → InBounds (unpacked r′) (countAt size class r q π) (loadAt size class r q π)
 
 -- the first n rules are carried to level q
 pub record Carries (size : Size) (n : ℕ) (class rule : List ℕ) (q : ℕ) (rule′ : List ℕ) : Type 0 where

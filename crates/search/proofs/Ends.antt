@@ -16,7 +16,7 @@ use Rattle.workflow.specs.Problem.{Job, May, Plan, Valid, Satisfiable, InBounds
 use Rattle.workflow.specs.Same.{SamePlans}
 use Rattle.workflow.proofs.Valid.{valid-agree}
 use Rattle.pattern.specs.declared.Size.{Size}
-use Rattle.pattern.specs.Eligible.{groupCount, openCount, Possible, AllNamed}
+use Rattle.pattern.specs.Eligible.{groupCount, groupLoad, openCount, Possible, AllNamed}
 use Rattle.pattern.specs.Realize.{Realizes, Realized}
 use Rattle.pattern.specs.Search.{Searchable, Exists, completed}
 use Rattle.pattern.specs.Tables.{mayIn, labelIn, planIn, jobWith, nestedJob}
@@ -74,13 +74,13 @@ module _ (j : Job) (may : May) (label : List ℕ) where
 
 -- with every step placed that a rule names, a rule that can be met is met
 pub exact : (j : Job) (placed : ℕ → Bool) (label : ℕ → ℕ → ℕ) → AllNamed j placed → (i : ℕ) → i < j .rules
-    → Possible (j .steps) placed label (j .rule i) → InBounds (j .rule i) (groupCount (j .steps) placed label (j .rule i))
+    → Possible (j .steps) placed label (j .rule i) → InBounds (j .rule i) (groupCount (j .steps) placed label (j .rule i)) (groupLoad (j .steps) placed label (j .rule i))
 exact j placed label named i l p =
     let none-open : openCount (j .steps) placed (j .rule i) ≡ 0
     = count-none (j .steps) (λ s. j .rule i .scope s && not (placed s))
     (λ s m. is-false _ (λ t. true-false (and-left (j .rule i .scope s) _ t) (named i s l m (not-true (placed s) (and-right (j .rule i .scope s) _ t)))))
     in
-    record { least = omega (arith, p .least); most = p .most }
+    record { least = omega (arith, p .counted .least); most = p .counted .most; load = p .load }
 
 -- the search that began with nothing placed has placed the steps named
 pub ended-reached : {j : Job} {may : May} {rest : ℕ} {label : List ℕ} → Completed j may 0 rest label → Reached j may rest 0 label

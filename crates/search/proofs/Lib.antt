@@ -6,5 +6,8 @@ pub mod Staff
 pub mod Ends
 pub mod Attempt
 pub mod Relaxing
+pub mod Unmet
 pub mod LowerLimits
+pub mod GreatestLoads
 pub mod Opposing
+pub mod PairedLoads

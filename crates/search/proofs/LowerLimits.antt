@@ -3,47 +3,37 @@
 use mathlib.Core.Bool.{Bool, true, false, not, cond, _&&_, _||_}
 use mathlib.Core.List.{List}
 use mathlib.Core.Path.{_≡_, refl, sym, subst, ap, _∙_}
-use Prim.Native.Nat.{ℕ, zero, suc, _+_, _*_, _-_, _%_, _^_, _≤_, _<_}
+use Prim.Native.Nat.{ℕ, zero, suc, _+_, _*_, _-_, _^_, _≤_, _<_}
 use native.Mathlib.Omega.{arith}
 use native.Mathlib.Nat.{not-suc-le-zero}
 use lib.Bits.{bitOr, bitXor}
 use lib.Count.{ones}
 use lib.Dec.{eqb, ltb}
-use lib.ListN.{length, getD, set, replicate, length-set, length-replicate}
+use lib.ListN.{getD, set, replicate, length-set, length-replicate}
 use lib.Seq.{getD-set-same, getD-set-other}
-use borrow.Author.Tests.{eqb-true, eqb-false, eq-eqb, ne-eqb, ltb-true, ltb-false, lt-ltb, not-true, not-false}
+use borrow.Author.Tests.{eqb-true, eqb-false, eq-eqb, ne-eqb, lt-ltb, not-true, not-false}
 use Rattle.bits.specs.Below.{count}
 use Rattle.bits.specs.Word.{hasBit, bitsSet}
 use Rattle.bits.specs.Set.{unlike, Added, Removed, Lowest}
 use Rattle.bits.proofs.Below.{by-cases, true-false, and-left, and-right}
-use Rattle.bits.proofs.Counting.{and-of, is-false, count-true, count-false, count-zero, count-grows}
+use Rattle.bits.proofs.Counting.{and-of, is-false, count-true, count-false, count-zero}
+use Rattle.bits.proofs.Masks.{or-left, or-right}
 use Rattle.bits.proofs.Ones.{ones-bits}
-use Rattle.bits.proofs.SetLaws.{empty-lacks, or-bit, xor-bit, has-below, added-has, added-keeps, added-other, removed-was, removed-differs}
-use Rattle.workflow.specs.Problem.{Valid, opens, distinct}
+use Rattle.bits.proofs.SetLaws.{empty-lacks, or-bit, xor-bit, added-has, added-keeps, added-other, removed-was, removed-differs}
+use Rattle.workflow.specs.Problem.{opens, distinct}
 use Rattle.workflow.proofs.Counts.{opens-scope, opens-new}
 use Rattle.matching.specs.Assignment.{Assignment, Covers, inMask, suits}
-use Rattle.pattern.specs.declared.Size.{Size}
 use Rattle.pattern.specs.Rule.{levelIn, leastIn, scopeIn}
-use Rattle.pattern.specs.Tables.{mayIn, jobWith}
-use Rattle.realize.specs.Parts.{Offers}
-use Rattle.pattern.specs.Given.{Ruled}
-use Rattle.search.specs.Existence.{Existence}
+use Rattle.relax.proofs.Bounding.{count-before}
 use Rattle.search.specs.Limits.{Gathering, Extra, Extras, Edges, Manned, ReachesLeast, Limits}
+use Rattle.search.proofs.Unmet.{assignment-of, Unmet}
 
 -- ---- the classes of a scope
 
-or-left : (a b : Bool) → a ≡ true → a || b ≡ true
-or-left true b h = refl
-or-left false b h = true-false refl (sym h)
-
-or-right : (a b : Bool) → b ≡ true → a || b ≡ true
-or-right true b h = refl
-or-right false b h = h
-
-or-has-left : (a b v : ℕ) → hasBit a v ≡ true → hasBit (bitOr a b) v ≡ true
+pub or-has-left : (a b v : ℕ) → hasBit a v ≡ true → hasBit (bitOr a b) v ≡ true
 or-has-left a b v h = or-bit a b v ∙ or-left (hasBit a v) (hasBit b v) h
 
-or-has-right : (a b v : ℕ) → hasBit b v ≡ true → hasBit (bitOr a b) v ≡ true
+pub or-has-right : (a b v : ℕ) → hasBit b v ≡ true → hasBit (bitOr a b) v ≡ true
 or-has-right a b v h = or-bit a b v ∙ or-right (hasBit a v) (hasBit b v) h
 
 module _ (reach : List ℕ) (q scope : ℕ) where
@@ -200,18 +190,6 @@ module _ (reach : List ℕ) (q extra : ℕ) where
 
 -- ---- counts
 
-count-upto : (m n : ℕ) (f : ℕ → Bool) → m ≤ n → count m f ≤ count n f
-count-upto m zero f l = let e : m ≡ 0 = omega arith in subst (λ (x : ℕ). count x f ≤ count 0 f) (sym e) (omega arith)
-count-upto m (suc n) f l =
-    by-cases (eqb m (suc n))
-    (λ t. let e : m ≡ suc n = eqb-true m (suc n) t in subst (λ (x : ℕ). count x f ≤ count (suc n) f) (sym e) (omega arith))
-    (λ t. let d : m ≡ suc n → ⊥ = eqb-false m (suc n) t in
-    let r : count m f ≤ count n f = count-upto m n f (omega arith) in omega (arith, count-grows n f))
-
--- the numbers before one that has f are fewer than those before any later one
-count-before : (m n : ℕ) (f : ℕ → Bool) → f m ≡ true → m < n → count m f < count n f
-count-before m n f h l = omega (arith, count-true m f h, count-upto (suc m) n f l)
-
 -- what h has without f
 less : (ℕ → Bool) → (ℕ → Bool) → ℕ → Bool
 less h f k = h k && not (f k)
@@ -252,9 +230,6 @@ module _ (scope : ℕ → Bool) (c member : ℕ → ℕ) (s : ℕ) where
   spreading-extra : opens scope c s ≡ false → spreading scope c member s ≡ member (count s (less scope (opens scope c)))
   unfolding spreading
   spreading-extra h = rw h refl
-
-in-groups : (steps scope g : ℕ) → scope < 2 ^ steps → inMask scope g ≡ true → (g < steps) × (hasBit scope g ≡ true)
-in-groups steps scope g small h = let b = and-right (ltb g 12) _ h in (has-below steps scope g small b, b)
 
 module _ {steps : ℕ} {reach : List ℕ} {q limit scope all mask : ℕ} {edges : List ℕ} (gathered : Gathering steps reach q scope all)
     (extra : Extra all (bitsSet steps scope - limit) mask) (w : Edges steps reach q mask edges) (c : ℕ → ℕ) (manned : Manned steps reach q scope c)
@@ -316,18 +291,7 @@ module _ {steps : ℕ} {reach : List ℕ} {q limit scope all mask : ℕ} {edges 
       omega arith))
 
   assignment : scope < 2 ^ steps → Assignment (inMask scope) (suits edges) f
-  assignment small =
-      record {
-        along = λ g h. let x = in-groups steps scope g small h in suited g (x .0) (x .1);
-        apart = λ g h a b e.
-            let x = in-groups steps scope g small a in
-            let y = in-groups steps scope h small b in
-            by-cases (ltb g h)
-            (λ t. absurd (ordered g h (ltb-true g h t) (y .0) (x .1) (y .1) e))
-            (λ t. by-cases (ltb h g)
-            (λ u. absurd (ordered h g (ltb-true h g u) (x .0) (y .1) (x .1) (sym e)))
-            (λ u. let n : h ≤ g = ltb-false g h t in let m : g ≤ h = ltb-false h g u in omega arith));
-      }
+  assignment small = assignment-of steps scope edges f small suited ordered
 
 module _ (steps : ℕ) (few : steps ≤ 12) (reach : List ℕ) (r : ℕ) (small : scopeIn r < 2 ^ steps) where
   pub reaching : {all : ℕ} (mask : ℕ) {edges : List ℕ} {found : Bool} {at : ℕ → ℕ} (enough : Bool) → Gathering steps reach (levelIn r - 1) (scopeIn r) all
@@ -355,31 +319,7 @@ module _ {steps rules : ℕ} {rule reach : List ℕ} where
   pub limits-passed : Limits steps rules rule reach true
   limits-passed = record { unreached = λ e. true-false refl e }
 
-module _ {size : Size} {class : ℕ → ℕ → ℕ} {rule : List ℕ} (ruled : Ruled size rule)
-    (small : (q p : ℕ) → 1 ≤ q → q ≤ size .levels → p < size .people → class q p < 64)
-    (may : List ℕ) {reach : List ℕ} (offers : Offers (jobWith size class rule) may reach) where
-  -- the classes of a valid plan have somebody for the steps
-  manned : (π : ℕ → ℕ) → Valid (jobWith size class rule) (mayIn may) π → (q scope : ℕ) → 1 ≤ q → q ≤ size .levels
-      → Manned (size .steps) reach (q - 1) scope (λ s. class q (π s))
-  manned π ok q scope from to s l h =
-      let e : suc (q - 1) ≡ q = omega arith in (
-        small q (π s) from to (ok .within s l),
-        subst (λ (x : ℕ). hasBit (getD reach ((q - 1) * 12 + s) 0) (class x (π s)) ≡ true) e
-            (offers .has (q - 1) s (π s) (omega arith) (omega (arith, ruled .few-steps)) (ok .within s l) (ok .authorised s l)),
-      )
-
-  -- a lower limit that is not reached
-  pub existence-short : (plan : List ℕ) → length plan ≡ 12 → (r : Bool) → Limits (size .steps) (size .rules) rule reach r → not r ≡ true
-      → Existence (jobWith size class rule) (mayIn may) plan plan false
-  existence-short plan e r limits f =
-      let u = limits .unreached (not-true r f) in
-      let i = u .which in
-      let ok = ruled .rule-ok i (u .below) in
-      record {
-        sized = e;
-        won = λ t. true-false refl (sym t);
-        lost = λ t x.
-            u .short .short refl (λ s. class (levelIn (getD rule i 0)) (x .0 s))
-            (manned (x .0) (x .1) (levelIn (getD rule i 0)) (scopeIn (getD rule i 0)) (ok .from) (ok .to)) (x .1 .eligible i (u .below) .least);
-        kept = λ t. refl;
-      }
+  pub limits-unmet : (r : Bool) → Limits steps rules rule reach r → not r ≡ true → Unmet steps rules rule reach
+  limits-unmet r w f =
+      let u = w .unreached (not-true r f) in
+      record { which = u .which; below = u .below; none = λ c manned met. u .short .short refl c manned (met .least) }

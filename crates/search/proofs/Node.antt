@@ -14,13 +14,13 @@ use Rattle.workflow.specs.Problem.{Job, May, Rule, RuleOk}
 use Rattle.pattern.specs.declared.Size.{Size}
 use Rattle.pattern.specs.Pattern.{Label, Pattern, Refining, SamePattern}
 use Rattle.pattern.specs.Place.{withStep, grown, Way}
-use Rattle.pattern.specs.Eligible.{groupCount, openCount, Possible}
+use Rattle.pattern.specs.Eligible.{groupCount, groupLoad, openCount, Possible}
 use Rattle.pattern.specs.Realize.{Realized}
 use Rattle.pattern.specs.Rule.{levelIn}
 use Rattle.pattern.specs.Tables.{mayIn, labelIn, ruleIn, jobWith, nestedJob}
 use Rattle.pattern.proofs.Place.{with-cases, grown-placed, grown-pattern}
 use Rattle.pattern.proofs.Same.{pattern-same, possible-same, exists-same}
-use Rattle.pattern.proofs.Counted.{open-count-outside, group-count-outside}
+use Rattle.pattern.proofs.Counted.{open-count-outside, group-count-outside, group-load-outside}
 use Rattle.pattern.proofs.Search.{exists-realized, exists-possible}
 use Rattle.bits.specs.Says.{Says}
 use Rattle.bits.proofs.Says.{says-true, says-false}
@@ -132,7 +132,13 @@ possible-outside steps levels placed label pattern s below unplaced r ok t d way
     = group-count-outside steps levels placed label pattern s below unplaced r ok t d way o
     in
     let b : openCount steps (withStep placed s) r ≡ openCount steps placed r = open-count-outside steps levels placed label pattern s below unplaced r o in
-    record { most = omega (arith, w .most); least = omega (arith, w .least) }
+    let c : groupLoad steps (withStep placed s) (grown label s t d) r ≡ groupLoad steps placed label r
+    = group-load-outside steps levels placed label pattern s below unplaced r ok t d way o
+    in
+    record {
+      counted = record { most = omega (arith, w .counted .most); least = omega (arith, w .counted .least) };
+      load = omega (arith, w .load);
+    }
 
 -- what is asked of the group that a way joins, and of the classes
 module _ {j : Job} {placed next s w : ℕ} {label : List ℕ} (g : Growable j placed next s w label) (few : j .levels ≤ mostLevels) where

@@ -1,5 +1,6 @@
 // A test of the lower limits, once for a search: where a rule asks for so many classes over the steps of
-// its scope, so many of these steps can be given different classes that have somebody for them.
+// its scope, so many of these steps can be given different classes that have somebody for them. What a limit on the load asks for
+// beyond its least count is tested in `loads`.
 use bits::set;
 use bits::sizes::MOST_STEPS;
 use bits::sizes::Reach;
@@ -24,7 +25,7 @@ pub struct Spares {
 }
 
 // The classes of level `q` + 1 with somebody for a step of the scope.
-fn classes_of(steps: usize, reach: &Reach, q: usize, scope: u16) -> u64
+pub fn classes_of(steps: usize, reach: &Reach, q: usize, scope: u16) -> u64
     requires { ⌜ (steps ≤ 12) × (length (now reach) ≡ labelEntries) × (q < mostLevels) ⌝ }
     ensures { λ r. ⌜ Gathering steps (now (reach .entry)) q scope r ⌝ }
 {

@@ -1,5 +1,6 @@
 // Rules that exclude each other: a scope has at most the classes of another, and one more for each step
-// outside that one. So an upper limit on the one can be too low for a lower limit on the other.
+// outside that one. So an upper limit on the one can be too low for a lower limit on the other. A limit on the load is here by the
+// least count that it asks for.
 use bits::sizes::Rules;
 use eligible::open_count;
 use pattern::rule;

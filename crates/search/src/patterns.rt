@@ -2,7 +2,9 @@
 use super::find::Front;
 use super::find::find;
 use super::limits::limits_reached;
+use super::loads::loads_fit;
 use super::opposed::opposed;
+use super::pairs::pairs_fit;
 use bits::set::below;
 use bits::set::lowest;
 use bits::sizes::Domains;
@@ -73,8 +75,8 @@ fn give_first(steps: usize, may: &Domains, plan: &mut Plan)
     }
 }
 
-// Whether there is a valid plan; `plan` is then one, and else as it was. Rules that exclude each other and
-// lower limits out of reach need no search.
+// Whether there is a valid plan; `plan` is then one, and else as it was. Rules that exclude each other, lower
+// limits out of reach and loads that cannot be kept to, alone or two at nested levels, need no search.
 pub fn by_patterns(tables: Tables, may: &Domains, weight: &mut Weights, plan: &mut Plan) -> bool
     requires { ⌜ Ready tables × (length (now may) ≡ 12) × (length (now weight) ≡ 12) × (length (now plan) ≡ 12) ⌝ }
     ensures { λ r. ⌜ Existence (tabledJob tables) (mayIn (now (may .entry))) (now (plan .entry)) (now (plan .exit)) r × (length (now (weight .exit)) ≡ 12) ⌝ }
@@ -96,6 +98,12 @@ pub fn by_patterns(tables: Tables, may: &Domains, weight: &mut Weights, plan: &m
     let nest = nests(size.people, size.levels, &class, &crowd);
     let reach = reaches(size.people, size.levels, &class, &nest, may);
     if !limits_reached(size, &rule, &reach) {
+        return false;
+    }
+    if !loads_fit(size, &rule, &reach) {
+        return false;
+    }
+    if !pairs_fit(size, &class, &rule, &reach) {
         return false;
     }
     let of = tables.of;

@@ -1,5 +1,6 @@
 // The key of each open step: how many ways it has left, by the rules alone, and how much weighs on it. A step
-// with few ways is placed next, so that a search which fails does so early. No promise rests on it.
+// with few ways is placed next, so that a search which fails does so early. No promise rests on it: a group that is full by a limit on
+// the load is counted as a way all the same.
 use bits::sizes::LABEL_ENTRIES;
 use bits::sizes::Labels;
 use bits::sizes::MOST_LEVELS;

@@ -170,8 +170,9 @@ limit-in-order (suc zero) limit size h = limit-cases 1 limit size h (λ a b c d.
 limit-in-order (suc (suc zero)) limit size h = limit-cases 2 limit size h (λ a b c d. (c, d)) (λ a b c d e. absurd (omega arith))
 limit-in-order (suc (suc (suc zero))) limit size h = limit-cases 3 limit size h (λ a b c d. absurd (omega arith)) (λ a b c d e. (c, d, e))
 limit-in-order (suc (suc (suc (suc zero)))) limit size h = limit-cases 4 limit size h (λ a b c d. absurd (omega arith)) (λ a b c d e. (c, d, e))
-limit-in-order (suc (suc (suc (suc (suc n))))) limit size h =
-    limit-cases (suc (suc (suc (suc (suc n))))) limit size h (λ a b c d. omega arith) (λ a b c d e. omega arith)
+limit-in-order (suc (suc (suc (suc (suc zero))))) limit size h = limit-cases 5 limit size h (λ a b c d. absurd (omega arith)) (λ a b c d e. (c, d, e))
+limit-in-order (suc (suc (suc (suc (suc (suc n)))))) limit size h =
+    limit-cases (suc (suc (suc (suc (suc (suc n)))))) limit size h (λ a b c d. omega arith) (λ a b c d e. omega arith)
 
 limit-true : (kind limit size : ℕ) → LimitInOrder kind limit size → limitOk kind limit size ≡ true
 unfolding limitOk
@@ -180,7 +181,8 @@ limit-true (suc zero) limit size h = rw (eq-eqb size 2 (h .0), eq-eqb limit 0 (h
 limit-true (suc (suc zero)) limit size h = rw (eq-eqb size 2 (h .0), eq-eqb limit 0 (h .1)) refl
 limit-true (suc (suc (suc zero))) limit size h = rw (le-leb 2 size (h .0), le-leb 1 limit (h .1), le-leb limit size (h .2)) refl
 limit-true (suc (suc (suc (suc zero)))) limit size h = rw (le-leb 2 size (h .0), le-leb 1 limit (h .1), le-leb limit size (h .2)) refl
-limit-true (suc (suc (suc (suc (suc n))))) limit size h = absurd h
+limit-true (suc (suc (suc (suc (suc zero))))) limit size h = rw (le-leb 2 size (h .0), le-leb 1 limit (h .1), le-leb limit size (h .2)) refl
+limit-true (suc (suc (suc (suc (suc (suc n)))))) limit size h = absurd h
 
 module _ (s : List ℕ) (c : ℕ) where
   pub person-fields : personOk s c ≡ true → PersonTested s c

@@ -113,10 +113,12 @@ LimitInOrder (suc (suc zero)) limit size = (size ≡ 2) × (limit ≡ 0)
 LimitInOrder (suc (suc (suc zero))) limit size = (2 ≤ size) × (1 ≤ limit) × (limit ≤ size)
 -- "Kind 4, at least: as kind 3"
 LimitInOrder (suc (suc (suc (suc zero)))) limit size = (2 ≤ size) × (1 ≤ limit) × (limit ≤ size)
-LimitInOrder (suc (suc (suc (suc (suc n))))) limit size = ⊥
+-- "Rule kind 5 ..: two or more steps, limit 1 to that number"
+LimitInOrder (suc (suc (suc (suc (suc zero))))) limit size = (2 ≤ size) × (1 ≤ limit) × (limit ≤ size)
+LimitInOrder (suc (suc (suc (suc (suc (suc n)))))) limit size = ⊥
 
 -- "Rule: byte 1 rule kind 1 to 4; byte 4 level 1 to 3; byte 5 limit; bytes 6-7 scope, bit j for step j; bits not below the number of steps are
--- zero, or this card gets 8." "The person is the level after the last, and the highest a rule may name"
+-- zero, or this card gets 8." "Rule kind 5, in both versions". "The person is the level after the last, and the highest a rule may name"
 pub record RuleInOrder (s : List ℕ) (c : ℕ) : Type 0 where
   pub limit : LimitInOrder (ruleKindOf s c) (limitOf s c) (scopeSize (scopeOf s c))
   pub level-from : 1 ≤ levelOf s c

@@ -123,7 +123,7 @@ fn first_found(people: bool, steps: bool, classes: bool, loose: bool) -> u32
     0
 }
 
-// The tags, the benches and the loose cards: reads on when every chain is listed.
+// The tags, the classes and the loose cards: reads on when every chain is listed.
 fn after_rules(
     s: &[u8],
     cards: usize,

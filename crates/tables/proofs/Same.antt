@@ -2,9 +2,9 @@
 use mathlib.Core.Bool.{Bool, true, false, not, _&&_}
 use mathlib.Core.List.{List, [], _∷_, _++_}
 use mathlib.Core.Path.{_≡_, refl, sym, _∙_, ap, subst}
-use Prim.Native.Nat.{ℕ, zero, suc, _+_, _^_, _<_, _≤_}
+use Prim.Native.Nat.{ℕ, zero, suc, _+_, _-_, _/_, _^_, _<_, _≤_}
 use native.Mathlib.Omega.{arith}
-use native.Mathlib.Nat.{not-suc-le-zero}
+use native.Mathlib.Nat.{not-suc-le-zero, div-zero, mul-suc}
 use native.Mathlib.Numerals.{add-one}
 use lib.Count.{ones}
 use lib.Dec.{leb, ltb}
@@ -21,11 +21,12 @@ use Rattle.remaining.specs.Kept.{keptBelow}
 use Rattle.remaining.proofs.KeptLaws.{kept-step, kept-below, kept-every, kept-few}
 use Rattle.sheet.specs.Readable.{ReadableJob}
 use Rattle.sheet.specs.declared.SheetJob as sheet
-use Rattle.workflow.specs.Problem.{Kind, same, different, atMost, atLeast, Job, Plan, Met, RuleOk, classCount, leastOf, mostOf}
+use Rattle.workflow.specs.Problem.{Kind, same, different, atMost, atLeast, maxLoad, Job, Plan, Met, RuleOk, classCount, leastOf, mostOf, heaviestOf, fewest}
 use Rattle.workflow.specs.Numbered.{kindIn}
 use Rattle.workflow.specs.Same.{SamePlans, Renamed}
 use Rattle.workflow.proofs.Counts.{distinct-le-scope}
 use Rattle.workflow.proofs.Lists.{length-snoc}
+use Rattle.workflow.proofs.Loads.{largest-load-scope, fewest-le}
 use Rattle.workflow.proofs.Rules.{class-some}
 use Rattle.workflow.proofs.Same.{renamed-same, same-trans}
 use Rattle.pattern.specs.declared.Size.{Size}
@@ -141,8 +142,11 @@ module _ (people steps rules : ℕ) (j : sheet.SheetJob) (r : ReadableJob people
   always-met : (i : ℕ) → left-out i ≡ true → (π : Plan) → Met asked (asked .rule i) π
   always-met i h π =
       let scope = hasBit (getD (j .«rule_scope») i 0) in
-      let one : count steps scope ≤ 1 = leb-true _ _ (and-left (leb (count steps scope) 1) _ h) in
-      let high : count steps scope ≤ asked .rule i .most = leb-true _ _ (and-right (leb (count steps scope) 1) _ h) in
+      let size = count steps scope in
+      let first = and-left (leb size 1 && leb size (asked .rule i .most)) _ h in
+      let one : count steps scope ≤ 1 = leb-true _ _ (and-left (leb size 1) _ first) in
+      let high : count steps scope ≤ asked .rule i .most = leb-true _ _ (and-right (leb size 1) _ first) in
+      let heavy : count steps scope ≤ asked .rule i .load = leb-true _ _ (and-right (leb size 1 && leb size (asked .rule i .most)) _ h) in
       let few : classCount asked (asked .rule i) π ≤ count steps scope = distinct-le-scope steps scope (λ s. asked .class (asked .rule i .level) (π s)) in
       record {
         least =
@@ -150,6 +154,7 @@ module _ (people steps rules : ℕ) (j : sheet.SheetJob) (r : ReadableJob people
             (λ t. let some : 1 ≤ classCount asked (asked .rule i) π = class-some steps scope (λ s. asked .class (asked .rule i .level) (π s)) (ltb-true 0 (count steps scope) t) in omega arith)
             (λ t. let none = ltb-false 0 (count steps scope) t in omega arith);
         most = omega arith;
+        load = omega (arith, largest-load-scope steps scope (λ s. asked .class (asked .rule i .level) (π s)));
       }
 
   shortened : SamePlans asked shorter
@@ -180,6 +185,7 @@ module _ (people steps rules : ℕ) (j : sheet.SheetJob) (r : ReadableJob people
         rules = refl;
         least = λ k l. w .each k l .its-least;
         most = λ k l. w .each k l .its-most;
+        load = λ k l. w .each k l .its-load;
         scope = λ k s l. ap (λ (m : ℕ). hasBit m s) (w .each k l .its-scope);
         classes = λ k p p′ l a b.
             let o = ok k l in
@@ -213,37 +219,59 @@ permits people steps j few m =
       permitted = λ s p l k. m .each s (omega arith) .each p ∙ ap (λ (b : Bool). b && hasBit (getD (j .permitted) p 0) s) (lt-ltb p people k);
     }
 
--- kinds 0 and 1 are `same`, those from 4 on `at least`
-pub low-least : (kind limit : ℕ) → kind ≤ 1 → 1 ≡ leastOf (kindIn kind) limit
-low-least zero limit l = refl
-low-least (suc zero) limit l = refl
-low-least (suc (suc kind)) limit l = absurd (omega arith)
+-- kinds 0 and 1 are `same`, those from 5 on limit the load
+pub low-least : (kind limit size : ℕ) → kind ≤ 1 → 1 ≡ leastOf (kindIn kind) limit size
+low-least zero limit size l = refl
+low-least (suc zero) limit size l = refl
+low-least (suc (suc kind)) limit size l = absurd (omega arith)
 
 pub low-most : (kind limit steps : ℕ) → kind ≤ 1 → 1 ≡ mostOf (kindIn kind) limit steps
 low-most zero limit steps l = refl
 low-most (suc zero) limit steps l = refl
 low-most (suc (suc kind)) limit steps l = absurd (omega arith)
 
-pub high-least : (kind limit : ℕ) → 4 ≤ kind → limit ≡ leastOf (kindIn kind) limit
-high-least zero limit l = absurd (omega arith)
-high-least (suc zero) limit l = absurd (omega arith)
-high-least (suc (suc zero)) limit l = absurd (omega arith)
-high-least (suc (suc (suc zero))) limit l = absurd (omega arith)
-high-least (suc (suc (suc (suc kind)))) limit l = refl
+pub limit-least : (kind limit size : ℕ) → kind ≡ 4 → limit ≡ leastOf (kindIn kind) limit size
+limit-least kind limit size e = rw e refl
+
+-- what kind 5 has
+pub load-kind : (kind : ℕ) → 4 < kind → kindIn kind ≡ maxLoad
+load-kind zero l = absurd (omega arith)
+load-kind (suc zero) l = absurd (omega arith)
+load-kind (suc (suc zero)) l = absurd (omega arith)
+load-kind (suc (suc (suc zero))) l = absurd (omega arith)
+load-kind (suc (suc (suc (suc zero)))) l = absurd (omega arith)
+load-kind (suc (suc (suc (suc (suc kind))))) l = refl
+
+-- and the others
+pub other-load : (kind limit steps : ℕ) → kind ≤ 4 → steps ≡ heaviestOf (kindIn kind) limit steps
+other-load zero limit steps l = refl
+other-load (suc zero) limit steps l = refl
+other-load (suc (suc zero)) limit steps l = refl
+other-load (suc (suc (suc zero))) limit steps l = refl
+other-load (suc (suc (suc (suc zero)))) limit steps l = refl
+other-load (suc (suc (suc (suc (suc kind))))) limit steps l = absurd (omega arith)
 
 pub high-most : (kind limit steps : ℕ) → 4 ≤ kind → steps ≡ mostOf (kindIn kind) limit steps
 high-most zero limit steps l = absurd (omega arith)
 high-most (suc zero) limit steps l = absurd (omega arith)
 high-most (suc (suc zero)) limit steps l = absurd (omega arith)
 high-most (suc (suc (suc zero))) limit steps l = absurd (omega arith)
-high-most (suc (suc (suc (suc kind)))) limit steps l = refl
+high-most (suc (suc (suc (suc zero)))) limit steps l = refl
+high-most (suc (suc (suc (suc (suc kind))))) limit steps l = refl
+
+-- no more classes than steps are needed to hold them
+fewest-few : (size load : ℕ) → fewest size load ≤ size
+unfolding fewest
+fewest-few size zero = let e : (size + (zero - 1)) / zero ≡ 0 = div-zero (size + (zero - 1)) in omega arith
+fewest-few size (suc k) = fewest-le size (suc k) size (omega (arith, mul-suc size k))
 
 -- what is packed fits in its bits
-pub least-small : (kind : Kind) (limit : ℕ) → limit ≤ 12 → leastOf kind limit < 16
-least-small same limit l = omega arith
-least-small different limit l = omega arith
-least-small atMost limit l = omega arith
-least-small atLeast limit l = omega arith
+pub least-small : (kind : Kind) (limit size : ℕ) → limit ≤ 12 → size ≤ 12 → leastOf kind limit size < 16
+least-small same limit size l m = omega arith
+least-small different limit size l m = omega arith
+least-small atMost limit size l m = omega arith
+least-small atLeast limit size l m = omega arith
+least-small maxLoad limit size l m = omega (arith, fewest-few size limit)
 
 module _ (steps : ℕ) (kind level limit scope : List ℕ) where
   -- the number holds rule i
@@ -313,12 +341,16 @@ size-left steps scope few small =
     ones-count steps scope (omega arith) word (λ s h. has-below steps scope s small h)
 
 -- a rule with two steps left or more can be broken
-pub breaks-two : (size most : ℕ) → 1 < size → true ≡ not (leb size 1 && leb size most)
-breaks-two size most l = rw (lt-leb size 1 l) refl
+pub breaks-two : (size most load : ℕ) → 1 < size → true ≡ not (leb size 1 && leb size most && leb size load)
+breaks-two size most load l = rw (lt-leb size 1 l) refl
 
 -- one with fewer where the greatest count is below them
-pub breaks-fewer : (size most : ℕ) → size ≤ 1 → ltb most size ≡ not (leb size 1 && leb size most)
-breaks-fewer size most l = rw (le-leb size 1 l) (turned most size)
+pub breaks-fewer : (size most load : ℕ) → size ≤ 1 → most < size → true ≡ not (leb size 1 && leb size most && leb size load)
+breaks-fewer size most load l m = rw (le-leb size 1 l, lt-leb size most m) refl
+
+-- or where the greatest load is
+pub breaks-heavy : (size most load : ℕ) → size ≤ 1 → size ≤ most → ltb load size ≡ not (leb size 1 && leb size most && leb size load)
+breaks-heavy size most load l m = rw (le-leb size 1 l, le-leb size most m) (turned load size)
   where
     turned : (a b : ℕ) → ltb a b ≡ not (leb b a)
     turned a b =

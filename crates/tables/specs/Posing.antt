@@ -10,7 +10,7 @@ use Rattle.bits.specs.Sizes.{mostLevels}
 use Rattle.bits.specs.Word.{hasBit}
 use Rattle.remaining.specs.Kept.{keptBelow}
 use Rattle.sheet.specs.declared.SheetJob as sheet
-use Rattle.workflow.specs.Problem.{leastOf, mostOf}
+use Rattle.workflow.specs.Problem.{leastOf, mostOf, heaviestOf}
 use Rattle.workflow.specs.Numbered.{kindIn}
 use Rattle.workflow.specs.Same.{SamePlans}
 use Rattle.instance.specs.Instance.{classNumber, instanceOf, mayOf}
@@ -31,20 +31,24 @@ pub record Packable (steps rules : ℕ) (level limit scope : List ℕ) : Type 0 
   pub small-limit : (i : ℕ) → i < rules → getD limit i 0 ≤ 12
   pub small-scope : (i : ℕ) → i < rules → getD scope i 0 < 2 ^ steps
 
--- the least and the greatest count of a card's rule, as `ruleOf` has them
+-- the least and the greatest count of a card's rule, and its greatest load, as `ruleOf` has them
 abbrev pub leastLeft : ℕ → ℕ → ℕ → ℕ → ℕ
-leastLeft steps kind limit scope = min (leastOf (kindIn kind) limit) (count steps (hasBit scope))
+leastLeft steps kind limit scope = min (leastOf (kindIn kind) limit (count steps (hasBit scope))) (count steps (hasBit scope))
 
 abbrev pub mostLeft : ℕ → ℕ → ℕ → ℕ
 mostLeft steps kind limit = min (mostOf (kindIn kind) limit steps) steps
 
+abbrev pub loadLeft : ℕ → ℕ → ℕ → ℕ
+loadLeft steps kind limit = min (heaviestOf (kindIn kind) limit steps) steps
+
 -- the number holds the rule of a card's kind, level, limit and scope
 abbrev pub Packs : ℕ → ℕ → ℕ → ℕ → ℕ → ℕ → Type 0
-Packs steps kind level limit scope r = Packed level (leastLeft steps kind limit scope) (mostLeft steps kind limit) scope r
+Packs steps kind level limit scope r = Packed level (leastLeft steps kind limit scope) (mostLeft steps kind limit) (loadLeft steps kind limit) scope r
 
 -- no plan breaks a rule that is left with one step or none
 abbrev pub unbroken : ℕ → ℕ → ℕ → ℕ → Bool
-unbroken steps kind limit scope = leb (count steps (hasBit scope)) 1 && leb (count steps (hasBit scope)) (mostLeft steps kind limit)
+unbroken steps kind limit scope =
+    leb (count steps (hasBit scope)) 1 && leb (count steps (hasBit scope)) (mostLeft steps kind limit) && leb (count steps (hasBit scope)) (loadLeft steps kind limit)
 
 -- the others of the first n
 abbrev pub breakable : ℕ → List ℕ → List ℕ → List ℕ → ℕ → List ℕ

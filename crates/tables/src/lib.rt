@@ -7,7 +7,7 @@ ghost use lib.Dec.{eqb};
 ghost use lib.ListN.{length, getD};
 ghost use Rattle.bits.specs.Sizes.{mostLevels, classWords, classEntries};
 ghost use Rattle.bits.specs.Slots.{FirstOfSlot};
-ghost use Rattle.workflow.specs.Problem.{leastOf, mostOf};
+ghost use Rattle.workflow.specs.Problem.{leastOf, mostOf, heaviestOf, fewest};
 ghost use Rattle.workflow.specs.Numbered.{kindIn};
 ghost use Rattle.pattern.specs.Number.{firstUse, classesBefore};
 ghost use Rattle.sheet.specs.Readable.{ReadableJob};
@@ -142,10 +142,25 @@ fn classes(words: &ClassWords, levels: usize, people: usize) -> Classes
     class
 }
 
-// The least count of a rule of a kind.
-fn least(kind: u8, limit: usize) -> usize
-    ensures { λ r. ⌜ r ≡ leastOf (kindIn kind) limit ⌝ }
+// How many classes it takes to hold so many steps, each at most `load` of them: the quotient, rounded up.
+fn fewest_classes(size: usize, load: usize) -> usize
+    requires { ⌜ (size ≤ 16) × (load ≤ 255) ⌝ }
+    ensures { λ r. ⌜ r ≡ fewest size load ⌝ }
 {
+    if load == 0 {
+        return 0;
+    }
+    (size + (load - 1)) / load
+}
+
+// The least count of a rule of a kind with so many steps in its scope.
+fn least(kind: u8, limit: usize, size: usize) -> usize
+    requires { ⌜ (size ≤ 16) × (limit ≤ 255) ⌝ }
+    ensures { λ r. ⌜ r ≡ leastOf (kindIn kind) limit size ⌝ }
+{
+    if kind > 4 {
+        return fewest_classes(size, limit);
+    }
     match kind {
         0..=1 => 1,
         2 => 2,
@@ -166,6 +181,16 @@ fn most(kind: u8, limit: usize, steps: usize) -> usize
     }
 }
 
+// The greatest load of a rule of a kind: kind 5 alone limits it.
+fn heaviest(kind: u8, limit: usize, steps: usize) -> usize
+    ensures { λ r. ⌜ r ≡ heaviestOf (kindIn kind) limit steps ⌝ }
+{
+    if kind > 4 {
+        return limit;
+    }
+    steps
+}
+
 // The smaller of two numbers.
 fn smaller(a: usize, b: usize) -> usize
     ensures { λ r. ⌜ r ≡ min a b ⌝ }
@@ -181,9 +206,11 @@ fn packed_rule(kind: u8, level: u8, limit: u8, scope: u16, steps: usize) -> u32
     requires { ⌜ (level ≤ mostLevels) × (limit ≤ 12) × (steps ≤ 12) × (scope < 2 ^ steps) ⌝ }
     ensures { λ r. ⌜ Packs steps kind level limit scope r ⌝ }
 {
-    let low = smaller(least(kind, limit as usize), small::size(scope));
+    let least = least(kind, limit as usize, small::size(scope));
+    let low = smaller(least, small::size(scope));
     let high = smaller(most(kind, limit as usize, steps), steps);
-    rule::pack(level as usize, low, high, scope)
+    let load = smaller(heaviest(kind, limit as usize, steps), steps);
+    rule::pack(level as usize, low, high, load, scope)
 }
 
 // Whether a plan can break a rule: not one that is left with one step or none.
@@ -195,7 +222,10 @@ fn can_break(kind: u8, limit: u8, scope: u16, steps: usize) -> bool
     if left > 1 {
         return true;
     }
-    left > smaller(most(kind, limit as usize, steps), steps)
+    if left > smaller(most(kind, limit as usize, steps), steps) {
+        return true;
+    }
+    left > smaller(heaviest(kind, limit as usize, steps), steps)
 }
 
 // The rules of a job that a plan can break, as numbers.

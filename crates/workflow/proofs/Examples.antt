@@ -6,7 +6,7 @@ use Prim.Native.Nat.{ℕ, zero, suc}
 use lib.ListN.{getD}
 use Rattle.bits.specs.Below.{all, any, count}
 use Rattle.bits.specs.Word.{hasBit}
-use Rattle.workflow.specs.Problem.{Kind, Rule, Job, May, ruleOf, same, different, opens, distinct, authorisedTest, eligibleTest, valid}
+use Rattle.workflow.specs.Problem.{Kind, Rule, Job, May, ruleOf, same, different, opens, distinct, loadOf, largest, largestLoad, authorisedTest, eligibleTest, valid}
 use Rattle.workflow.specs.First.{planOf}
 
 -- a rule over two steps, scope bit j for step j
@@ -42,7 +42,7 @@ jobTable =
 
 -- its plan (2) is valid: u₁, u₂, u₁, u₈, u₄, u₉
 pub plan-2-valid : valid jobTable mayTable (planOf (0 ∷ 1 ∷ 0 ∷ 7 ∷ 3 ∷ 8 ∷ [])) ≡ true
-unfolding all any count opens distinct authorisedTest eligibleTest valid
+unfolding all any count opens distinct loadOf largest largestLoad authorisedTest eligibleTest valid
 plan-2-valid = refl
 
 -- its plan (1) is authorised and not eligible: u₁, u₈, u₁, u₈, u₈, u₉
@@ -51,7 +51,7 @@ unfolding all authorisedTest
 plan-1-authorised = refl
 
 pub plan-1-not-eligible : eligibleTest jobTable (planOf (0 ∷ 7 ∷ 0 ∷ 7 ∷ 7 ∷ 8 ∷ [])) ≡ false
-unfolding all any count opens distinct eligibleTest
+unfolding all any count opens distinct loadOf largest largestLoad eligibleTest
 plan-1-not-eligible = refl
 
 -- one that breaks the last rule alone, u₈ doing both s₄ and s₆: u₁, u₂, u₁, u₈, u₄, u₈
@@ -60,5 +60,5 @@ unfolding all authorisedTest
 plan-last-rule-authorised = refl
 
 pub plan-last-rule-not-eligible : eligibleTest jobTable (planOf (0 ∷ 1 ∷ 0 ∷ 7 ∷ 3 ∷ 7 ∷ [])) ≡ false
-unfolding all any count opens distinct eligibleTest
+unfolding all any count opens distinct loadOf largest largestLoad eligibleTest
 plan-last-rule-not-eligible = refl

@@ -1,4 +1,4 @@
--- Every rule, of each of the four kinds, is class-independent for its level. Assumes nothing.
+-- Every rule, of each of the five kinds, is class-independent for its level. Assumes nothing.
 use mathlib.Core.Bool.{true}
 use mathlib.Core.Path.{_≡_, sym, _∙_, ap}
 use Prim.Native.Nat.{ℕ, _<_}
@@ -18,7 +18,7 @@ replaced j q φ perm p =
     (λ t. let w = perm .into p (ltb-true _ _ t) in (w .0, λ l. (w .1, w .2)))
     (λ t. (0, λ l. absurd (omega (arith, ltb-false p (j .people) t))))
 
--- the rule is class-independent: its count knows only which steps of the scope share a class, and a permutation keeps that
+-- the rule is class-independent: its count and its loads know only which steps of the scope share a class, and a permutation keeps that
 pub rule-independent : (j : Job) (r : Rule) → ClassIndependent j (r .level) (constraint j r)
 rule-independent j r =
     record {

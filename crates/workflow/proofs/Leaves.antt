@@ -1,6 +1,6 @@
 -- The plans of the job of the remaining steps are those of the job as its sheet has it, in the same order. Assumes nothing.
 use mathlib.Core.Bool.{Bool, true, false, not, _&&_}
-use mathlib.Core.Logic.{_↔_}
+use mathlib.Core.Logic.{_↔_, _⊎_, inl, inr}
 use mathlib.Core.Path.{_≡_, refl, sym, subst, ap, _∙_}
 use Prim.Native.Nat.{ℕ, _<_, _≤_}
 use native.Mathlib.Omega.{arith}
@@ -9,15 +9,16 @@ use borrow.Author.Tests.{eqb-true, eqb-false, eq-eqb, ltb-true, ltb-false, not-t
 use Rattle.bits.specs.Below.{count, first}
 use Rattle.bits.proofs.Below.{by-cases, true-false, and-left, and-right, first-has, first-none}
 use Rattle.bits.proofs.Counting.{and-of, count-cong, count-le, bool-ext}
-use Rattle.workflow.specs.Problem.{Job, May, Plan, Agree, Asks, Fits, Valid, Satisfiable, classCount, opens, distinct}
+use Rattle.workflow.specs.Problem.{Job, May, Plan, Agree, Asks, Fits, Valid, Satisfiable, classCount, classLoad, figureOf, opens, distinct, loadOf, largestLoad, HeldBySome, LargestLoad}
 use Rattle.workflow.specs.First.{Earlier, FirstValid}
-use Rattle.workflow.specs.Skipped.{MarkedJob, scopeLeft, sizeLeft, countLeft, AsksLeft, ValidLeft, SatisfiableLeft, EarlierLeft, FirstValidLeft, ValidWhole}
+use Rattle.workflow.specs.Skipped.{MarkedJob, scopeLeft, sizeLeft, figureLeft, AsksLeft, ValidLeft, SatisfiableLeft, EarlierLeft, FirstValidLeft, ValidWhole}
 use Rattle.workflow.specs.Leaves.{Leaves, planLeft, mayLeft}
-use Rattle.workflow.proofs.Counts.{opens-of, opens-scope, distinct-le-scope}
+use Rattle.workflow.proofs.Counts.{opens-of, opens-scope}
 use Rattle.workflow.proofs.Different.{distinct-different, different-unique}
+use Rattle.workflow.proofs.Loads.{load-scope-mono, largest-load-is, largest-load-unique}
 use Rattle.workflow.proofs.Occurs.{distinct-scope-mono}
 use Rattle.workflow.proofs.Order.{earlier-agree, earlier-agree-second}
-use Rattle.workflow.proofs.Rules.{bounds-ask, ask-least, ask-most, asks-whole, class-some}
+use Rattle.workflow.proofs.Rules.{figures-ask, figures-least, figures-most, figures-load, asks-whole}
 use Rattle.workflow.proofs.Valid.{valid-agree}
 
 -- how many steps a scope has is how many classes it has where each step is one
@@ -78,21 +79,58 @@ module _ {m : MarkedJob} {j : Job} {at : ℕ → ℕ} (w : Leaves m j at) where
       ∙ distinct-left S T (λ s. s) at scoped (λ k l. refl)
       ∙ sym (count-distinct (m .steps) (λ s. S s && not (m .skipped s)) (λ s. s) (λ s t l b e. omega arith))
 
+  -- so each class holds as many steps
+  module _ (S T : ℕ → Bool) (c d : ℕ → ℕ) (scoped : (k : ℕ) → k < j .steps → T k ≡ S (at k)) (classed : (k : ℕ) → k < j .steps → d k ≡ c (at k)) where
+    abbrev remaining : ℕ → Bool
+    remaining s = S s && not (m .skipped s)
+
+    each : (v : ℕ) → loadOf (j .steps) T d v ≡ loadOf (m .steps) remaining c v
+    unfolding loadOf
+    each v =
+        count-left (λ s. S s && eqb (c s) v) (λ k. T k && eqb (d k) v) (λ k l. rw (scoped k l, classed k l) refl)
+        ∙ count-cong (m .steps) _ _ (λ s l. turned (S s) (eqb (c s) v) (not (m .skipped s)))
+      where
+        turned : (x y z : Bool) → x && y && z ≡ x && z && y
+        turned x y z =
+            bool-ext _ _
+            (λ h. and-of _ _ (and-of _ _ (and-left x y (and-left (x && y) z h)) (and-right (x && y) z h)) (and-right x y (and-left (x && y) z h)))
+            (λ h. and-of _ _ (and-of _ _ (and-left x z (and-left (x && z) y h)) (and-right (x && z) y h)) (and-right x z (and-left (x && z) y h)))
+
+    held-left : (number : ℕ) → HeldBySome (j .steps) T d number → HeldBySome (m .steps) remaining c number
+    held-left number (inl (k, l, h, e)) =
+        inl (
+          at k,
+          w .below k l,
+          and-of _ _ (sym (scoped k l) ∙ h) (not-skipped _ (w .remains k l)),
+          sym (each (c (at k))) ∙ ap (loadOf (j .steps) T d) (sym (classed k l)) ∙ e,
+        )
+    held-left number (inr (z, e)) = inr (sym (count-left S T scoped) ∙ z, e)
+
+    load-left : largestLoad (j .steps) T d ≡ largestLoad (m .steps) remaining c
+    load-left =
+        let is = largest-load-is (j .steps) T d in
+        largest-load-unique {n = m .steps} {scope = remaining} {c = c}
+        (record { held = held-left _ (is .held); none-more = λ v. omega (arith, each v, is .none-more v) })
+        (largest-load-is (m .steps) remaining c)
+
   -- of each rule
   module _ (i : ℕ) (l : i < m .rules) where
     pub size-left : count (j .steps) (j .rule i .scope) ≡ sizeLeft m (m .rule i)
     size-left = count-left (m .rule i .scope) (j .rule i .scope) (λ k a. w .scope i k l a)
 
-    pub class-left : (π : Plan) → ((k : ℕ) → k < j .steps → π (at k) < m .people) → classCount j (j .rule i) (planLeft at π) ≡ countLeft m (m .rule i) π
-    class-left π within =
-        distinct-left (m .rule i .scope) (j .rule i .scope) (λ s. m .class (m .rule i .level) (π s)) _
-        (λ k a. w .scope i k l a) (λ k a. w .class i (π (at k)) l (within k a))
+    -- the classes of the steps left
+    abbrev seen : Plan → ℕ → ℕ
+    seen π k = j .class (j .rule i .level) (planLeft at π k)
 
-    few : (π : Plan) → classCount j (j .rule i) π ≤ count (j .steps) (j .rule i .scope)
-    few π = distinct-le-scope (j .steps) (j .rule i .scope) (λ k. j .class (j .rule i .level) (π k))
-
-    some : (π : Plan) → 1 ≤ count (j .steps) (j .rule i .scope) → 1 ≤ classCount j (j .rule i) π
-    some π = class-some (j .steps) (j .rule i .scope) (λ k. j .class (j .rule i .level) (π k))
+    pub figure-left : (π : Plan) → ((k : ℕ) → k < j .steps → π (at k) < m .people)
+        → figureOf (m .rule i .kind) (j .steps) (j .rule i .scope) (seen π) ≡ figureLeft m (m .rule i) π
+    figure-left π within =
+        rw (
+          distinct-left (m .rule i .scope) (j .rule i .scope) (λ s. m .class (m .rule i .level) (π s)) (seen π)
+              (λ k a. w .scope i k l a) (λ k a. w .class i (π (at k)) l (within k a)),
+          load-left (m .rule i .scope) (j .rule i .scope) (λ s. m .class (m .rule i .level) (π s)) (seen π)
+              (λ k a. w .scope i k l a) (λ k a. w .class i (π (at k)) l (within k a)),
+        ) refl
 
   -- "the law that its plans and these are the same"
   pub valid-left : (may : May) (π : Plan) → ValidLeft m may π ↔ Valid j (mayLeft at may) (planLeft at π)
@@ -106,23 +144,12 @@ module _ {m : MarkedJob} {j : Job} {at : ℕ → ℕ} (w : Leaves m j at) where
             authorised = λ k l. v .authorised (at k) (w .below k l) (w .remains k l);
             eligible = λ i a.
                 let l : i < m .rules = omega (arith, w .rules) in
-                let size = size-left i l in
-                let number = class-left i l π within in
-                let asked : AsksLeft (m .rule i .kind) (m .rule i .limit) (count (j .steps) (j .rule i .scope)) (classCount j (j .rule i) (planLeft at π))
-                = rw (size, number) (v .eligible i l) in
+                let asked : AsksLeft (m .rule i .kind) (m .rule i .limit) (count (j .steps) (j .rule i .scope)) (figureOf (m .rule i .kind) (j .steps) (j .rule i .scope) (seen i l π))
+                = rw (size-left i l, figure-left i l π within) (v .eligible i l) in
                 record {
-                  least = omega (
-                    arith,
-                    w .least i l,
-                    ask-least (m .rule i .limit) _ _ (j .steps) (few i l (planLeft at π)) (some i l (planLeft at π)) (count-le (j .steps) (j .rule i .scope))
-                        (m .rule i .kind) asked,
-                  );
-                  most = omega (
-                    arith,
-                    w .most i l,
-                    ask-most (m .rule i .limit) _ _ (j .steps) (few i l (planLeft at π)) (some i l (planLeft at π)) (count-le (j .steps) (j .rule i .scope))
-                        (m .rule i .kind) asked,
-                  );
+                  least = omega (arith, w .least i l, figures-least (j .steps) (j .rule i .scope) (seen i l π) (m .rule i .limit) (m .rule i .kind) asked);
+                  most = omega (arith, w .most i l, figures-most (j .steps) (j .rule i .scope) (seen i l π) (m .rule i .limit) (m .rule i .kind) asked);
+                  load = omega (arith, w .load i l, figures-load (j .steps) (j .rule i .scope) (seen i l π) (m .rule i .limit) (m .rule i .kind) asked);
                 };
           }
 
@@ -134,9 +161,9 @@ module _ {m : MarkedJob} {j : Job} {at : ℕ → ℕ} (w : Leaves m j at) where
             authorised = λ s l h. let k = w .every s l h in subst (λ (t : ℕ). may t (π t) ≡ true) (k .2) (v .authorised (k .0) (k .1));
             eligible = λ i l.
                 let met = v .eligible i (omega (arith, w .rules)) in
-                rw (sym (size-left i l), sym (class-left i l π within))
-                (bounds-ask (m .rule i .limit) _ _ (j .steps) (few i l (planLeft at π)) (some i l (planLeft at π)) (count-le (j .steps) (j .rule i .scope))
-                (m .rule i .kind) (omega (arith, w .least i l, met .least)) (omega (arith, w .most i l, met .most)));
+                rw (sym (size-left i l), sym (figure-left i l π within))
+                (figures-ask (j .steps) (j .rule i .scope) (seen i l π) (m .rule i .limit) (m .rule i .kind)
+                (omega (arith, w .least i l, met .least)) (omega (arith, w .most i l, met .most)) (omega (arith, w .load i l, met .load)));
           }
 
   -- a plan of the remaining steps, as one of all steps
@@ -218,19 +245,29 @@ module _ (m : MarkedJob) (none : (s : ℕ) → s < m .steps → m .skipped s ≡
   size-whole : (i : ℕ) → sizeLeft m (m .rule i) ≡ count (m .steps) (m .rule i .scope)
   size-whole i = count-cong (m .steps) _ _ (scope-whole i)
 
-  class-whole : (i : ℕ) → countLeft m (m .rule i) π ≡ distinct (m .steps) (m .rule i .scope) (λ s. m .class (m .rule i .level) (π s))
-  class-whole i =
+  figure-whole : (i : ℕ) → figureLeft m (m .rule i) π ≡ figureOf (m .rule i .kind) (m .steps) (m .rule i .scope) (λ s. m .class (m .rule i .level) (π s))
+  figure-whole i =
       let c : ℕ → ℕ = λ s. m .class (m .rule i .level) (π s) in
-      omega (
+      let counted : distinct (m .steps) (scopeLeft m (m .rule i)) c ≡ distinct (m .steps) (m .rule i .scope) c
+      = omega (
         arith,
         distinct-scope-mono (m .steps) c (scopeLeft m (m .rule i)) (m .rule i .scope) (λ s l h. sym (scope-whole i s l) ∙ h),
         distinct-scope-mono (m .steps) c (m .rule i .scope) (scopeLeft m (m .rule i)) (λ s l h. scope-whole i s l ∙ h),
       )
+      in
+      let loaded : largestLoad (m .steps) (scopeLeft m (m .rule i)) c ≡ largestLoad (m .steps) (m .rule i .scope) c
+      = omega (
+        arith,
+        load-scope-mono (m .steps) c (scopeLeft m (m .rule i)) (m .rule i .scope) (λ s l h. sym (scope-whole i s l) ∙ h),
+        load-scope-mono (m .steps) c (m .rule i .scope) (scopeLeft m (m .rule i)) (λ s l h. scope-whole i s l ∙ h),
+      )
+      in
+      rw (counted, loaded) refl
 
   asks-same : (i : ℕ) → i < m .rules
-      → AsksLeft (m .rule i .kind) (m .rule i .limit) (sizeLeft m (m .rule i)) (countLeft m (m .rule i) π)
-      ↔ Asks (m .rule i .kind) (m .rule i .limit) (distinct (m .steps) (m .rule i .scope) (λ s. m .class (m .rule i .level) (π s)))
-  asks-same i l = rw (size-whole i, class-whole i) (asks-whole (m .rule i .kind) (m .rule i .limit) _ _ (fits i l))
+      → AsksLeft (m .rule i .kind) (m .rule i .limit) (sizeLeft m (m .rule i)) (figureLeft m (m .rule i) π)
+      ↔ Asks (m .rule i .kind) (m .rule i .limit) (figureOf (m .rule i .kind) (m .steps) (m .rule i .scope) (λ s. m .class (m .rule i .level) (π s)))
+  asks-same i l = rw (size-whole i, figure-whole i) (asks-whole (m .rule i .kind) (m .rule i .limit) _ _ (fits i l))
 
   pub valid-whole : ValidLeft m may π ↔ ValidWhole m may π
   valid-whole = (

@@ -1,6 +1,7 @@
 pub mod Counts
 pub mod Occurs
 pub mod Different
+pub mod Loads
 pub mod Valid
 pub mod Rules
 pub mod Nested
@@ -11,4 +12,5 @@ pub mod First
 pub mod Examples
 pub mod Same
 pub mod Labels
+pub mod Tally
 pub mod Leaves

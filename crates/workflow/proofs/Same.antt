@@ -3,36 +3,56 @@ use mathlib.Core.Logic.{_↔_}
 use mathlib.Core.Path.{_≡_, sym, _∙_, ap, subst}
 use Prim.Native.Nat.{ℕ, _<_}
 use native.Mathlib.Omega.{arith}
-use Rattle.workflow.specs.Problem.{Job, May, Plan, OfPeople, Valid, Satisfiable, classCount, distinct}
+use Rattle.workflow.specs.Problem.{Job, May, Plan, OfPeople, Valid, Satisfiable, classCount, classLoad, distinct, largestLoad}
 use Rattle.workflow.specs.First.{Found, found, nothing, planOf, firstPlan, IsFirst}
+use Rattle.workflow.specs.Independent.{Alike}
 use Rattle.workflow.specs.Same.{SamePlans, Renamed}
 use Rattle.workflow.proofs.Counts.{distinct-alike}
 use Rattle.workflow.proofs.First.{firstPlan-is-first, firstPlan-unique}
+use Rattle.workflow.proofs.Loads.{load-alike, load-scope-mono}
 use Rattle.workflow.proofs.Occurs.{distinct-scope-mono}
 use Rattle.workflow.proofs.Valid.{valid-mono}
 
 module _ (j j′ : Job) (w : Renamed j j′) where
-  -- the same classes are counted
-  counted : (i : ℕ) → i < j .rules → (π : Plan) → OfPeople j π → classCount j (j .rule i) π ≡ classCount j′ (j′ .rule i) π
-  counted i l π within =
-      distinct-alike (j .steps) (j .rule i .scope) _ _
-      (record {
-        forth = λ s t a b h k e. w .classes i (π s) (π t) l (within s a) (within t b) .0 e;
-        back = λ s t a b h k e. w .classes i (π s) (π t) l (within s a) (within t b) .1 e;
-      })
-      ∙ scoped
-      ∙ ap (λ (n : ℕ). distinct n (j′ .rule i .scope) there) (sym (w .steps))
-    where
-      there : ℕ → ℕ
-      there s = j′ .class (j′ .rule i .level) (π s)
+  -- the same classes are counted, and they hold as many steps
+  module _ (i : ℕ) (l : i < j .rules) (π : Plan) (within : OfPeople j π) where
+    abbrev there : ℕ → ℕ
+    there s = j′ .class (j′ .rule i .level) (π s)
 
-      scoped : distinct (j .steps) (j .rule i .scope) there ≡ distinct (j .steps) (j′ .rule i .scope) there
-      scoped =
-          omega (
-            arith,
-            distinct-scope-mono (j .steps) there (j .rule i .scope) (j′ .rule i .scope) (λ s b h. w .scope i s l ∙ h),
-            distinct-scope-mono (j .steps) there (j′ .rule i .scope) (j .rule i .scope) (λ s b h. sym (w .scope i s l) ∙ h),
-          )
+    alike : Alike (j .steps) (j .rule i .scope) (λ s. j .class (j .rule i .level) (π s)) there
+    alike =
+        record {
+          forth = λ s t a b h k e. w .classes i (π s) (π t) l (within s a) (within t b) .0 e;
+          back = λ s t a b h k e. w .classes i (π s) (π t) l (within s a) (within t b) .1 e;
+        }
+
+    counted : classCount j (j .rule i) π ≡ classCount j′ (j′ .rule i) π
+    counted =
+        distinct-alike (j .steps) (j .rule i .scope) _ _ alike
+        ∙ scoped
+        ∙ ap (λ (n : ℕ). distinct n (j′ .rule i .scope) there) (sym (w .steps))
+      where
+        scoped : distinct (j .steps) (j .rule i .scope) there ≡ distinct (j .steps) (j′ .rule i .scope) there
+        scoped =
+            omega (
+              arith,
+              distinct-scope-mono (j .steps) there (j .rule i .scope) (j′ .rule i .scope) (λ s b h. w .scope i s l ∙ h),
+              distinct-scope-mono (j .steps) there (j′ .rule i .scope) (j .rule i .scope) (λ s b h. sym (w .scope i s l) ∙ h),
+            )
+
+    loaded : classLoad j (j .rule i) π ≡ classLoad j′ (j′ .rule i) π
+    loaded =
+        load-alike (j .steps) (j .rule i .scope) _ _ alike
+        ∙ scoped
+        ∙ ap (λ (n : ℕ). largestLoad n (j′ .rule i .scope) there) (sym (w .steps))
+      where
+        scoped : largestLoad (j .steps) (j .rule i .scope) there ≡ largestLoad (j .steps) (j′ .rule i .scope) there
+        scoped =
+            omega (
+              arith,
+              load-scope-mono (j .steps) there (j .rule i .scope) (j′ .rule i .scope) (λ s b h. w .scope i s l ∙ h),
+              load-scope-mono (j .steps) there (j′ .rule i .scope) (j .rule i .scope) (λ s b h. sym (w .scope i s l) ∙ h),
+            )
 
   renamed-forth : (may : May) (π : Plan) → Valid j may π → Valid j′ may π
   renamed-forth may π v =
@@ -42,8 +62,13 @@ module _ (j j′ : Job) (w : Renamed j j′) where
         eligible = λ i l.
             let b : i < j .rules = omega (arith, w .rules) in
             let e = counted i b π (v .within) in
+            let f = loaded i b π (v .within) in
             let m = v .eligible i b in
-            record { least = omega (arith, m .least, w .least i b); most = omega (arith, m .most, w .most i b) };
+            record {
+              least = omega (arith, m .least, w .least i b);
+              most = omega (arith, m .most, w .most i b);
+              load = omega (arith, m .load, w .load i b);
+            };
       }
 
   renamed-back : (may : May) (π : Plan) → Valid j′ may π → Valid j may π
@@ -56,8 +81,13 @@ module _ (j j′ : Job) (w : Renamed j j′) where
         authorised = λ s l. v .authorised s (omega (arith, w .steps));
         eligible = λ i l.
             let e = counted i l π within in
+            let f = loaded i l π within in
             let m = v .eligible i (omega (arith, w .rules)) in
-            record { least = omega (arith, m .least, w .least i l); most = omega (arith, m .most, w .most i l) };
+            record {
+              least = omega (arith, m .least, w .least i l);
+              most = omega (arith, m .most, w .most i l);
+              load = omega (arith, m .load, w .load i l);
+            };
       }
 
   pub renamed-same : SamePlans j j′

@@ -7,20 +7,27 @@ use borrow.Author.Tests.{leb-true, le-leb, ltb-true, lt-ltb}
 use Rattle.bits.specs.Below.{all}
 use Rattle.bits.proofs.Below.{true-false, all-at, all-of, and-left, and-right}
 use Rattle.bits.proofs.Counting.{and-of}
-use Rattle.workflow.specs.Problem.{Rule, Job, May, Plan, Agree, classCount, InBounds, Met, met, Valid, authorisedTest, eligibleTest, valid, Satisfiable}
+use Rattle.workflow.specs.Problem.{Rule, Job, May, Plan, Agree, classCount, classLoad, InBounds, Met, met, Valid, authorisedTest, eligibleTest, valid, Satisfiable}
 use Rattle.workflow.specs.Independent.{Alike, classesOf}
 use Rattle.workflow.proofs.Counts.{distinct-alike, distinct-cong}
+use Rattle.workflow.proofs.Loads.{load-alike, load-cong}
+
+-- the bounds of a rule hold of other figures that are the same
+pub bounds-same : (r : Rule) {n n′ l l′ : ℕ} → n ≡ n′ → l ≡ l′ → InBounds r n l → InBounds r n′ l′
+bounds-same r {n} {n′} {l} {l′} e d b = subst (λ (x : ℕ). InBounds r x l′) e (subst (InBounds r n) d b)
 
 module _ (j : Job) (r : Rule) (π : Plan) where
   pub met-sound : met j r π ≡ true → Met j r π
   met-sound h =
+      let counted = and-left (leb (r .least) (classCount j r π) && leb (classCount j r π) (r .most)) _ h in
       record {
-        least = leb-true _ _ (and-left (leb (r .least) (classCount j r π)) _ h);
-        most = leb-true _ _ (and-right (leb (r .least) (classCount j r π)) _ h);
+        least = leb-true _ _ (and-left (leb (r .least) (classCount j r π)) _ counted);
+        most = leb-true _ _ (and-right (leb (r .least) (classCount j r π)) _ counted);
+        load = leb-true _ _ (and-right (leb (r .least) (classCount j r π) && leb (classCount j r π) (r .most)) _ h);
       }
 
   pub met-complete : Met j r π → met j r π ≡ true
-  met-complete h = and-of _ _ (le-leb _ _ (h .least)) (le-leb _ _ (h .most))
+  met-complete h = and-of _ _ (and-of _ _ (le-leb _ _ (h .least)) (le-leb _ _ (h .most))) (le-leb _ _ (h .load))
 
 module _ (j : Job) (may : May) (π : Plan) where
   pub valid-sound : valid j may π ≡ true → Valid j may π
@@ -49,13 +56,17 @@ module _ (j : Job) (r : Rule) (π σ : Plan) where
   pub count-alike : Alike (j .steps) (r .scope) (classesOf j (r .level) π) (classesOf j (r .level) σ) → classCount j r π ≡ classCount j r σ
   count-alike a = distinct-alike (j .steps) (r .scope) _ _ a
 
-  -- so does whether the rule is met
+  -- so does the largest load
+  pub loads-alike : Alike (j .steps) (r .scope) (classesOf j (r .level) π) (classesOf j (r .level) σ) → classLoad j r π ≡ classLoad j r σ
+  loads-alike a = load-alike (j .steps) (r .scope) _ _ a
+
+  -- and so does whether the rule is met
   pub met-alike : Alike (j .steps) (r .scope) (classesOf j (r .level) π) (classesOf j (r .level) σ) → Met j r π → Met j r σ
-  met-alike a m = subst (InBounds r) (count-alike a) m
+  met-alike a m = bounds-same r (count-alike a) (loads-alike a) m
 
   -- and it depends on the classes of the scope's steps only
   pub met-cong : ((s : ℕ) → s < j .steps → r .scope s ≡ true → j .class (r .level) (π s) ≡ j .class (r .level) (σ s)) → Met j r π → Met j r σ
-  met-cong h m = subst (InBounds r) (distinct-cong (j .steps) (r .scope) _ _ h) m
+  met-cong h m = bounds-same r (distinct-cong (j .steps) (r .scope) _ _ h) (load-cong (j .steps) (r .scope) _ _ h) m
 
 -- validity depends on the people of the job's steps only
 pub valid-agree : (j : Job) (may : May) (π σ : Plan) → Agree (j .steps) π σ → Valid j may π → Valid j may σ

@@ -3,15 +3,16 @@ use mathlib.Core.List.{List}
 use Prim.Native.Nat.{ℕ, zero, suc}
 use lib.ListN.{getD}
 use Rattle.bits.specs.Word.{hasBit}
-use Rattle.workflow.specs.Problem.{Kind, Rule, ruleOf, same, different, atMost, atLeast}
+use Rattle.workflow.specs.Problem.{Kind, Rule, ruleOf, same, different, atMost, atLeast, maxLoad}
 
--- "rule kind 1 to 4": the kind of a number
+-- "rule kind 1 to 4", and kind 5: the kind of a number
 abbrev pub kindIn : ℕ → Kind
 kindIn zero = same
 kindIn (suc zero) = same
 kindIn (suc (suc zero)) = different
 kindIn (suc (suc (suc zero))) = atMost
-kindIn (suc (suc (suc (suc n)))) = atLeast
+kindIn (suc (suc (suc (suc zero)))) = atLeast
+kindIn (suc (suc (suc (suc (suc n))))) = maxLoad
 
 -- rule i of a job of so many steps, of arrays of kinds, levels, limits and scopes, a scope being a mask of steps
 abbrev pub cardRule : ℕ → List ℕ → List ℕ → List ℕ → List ℕ → ℕ → Rule

@@ -1,20 +1,22 @@
 -- The workflow satisfiability problem, as sections 2.1 to 2.3 of document 004 and "Rules and valid plans" of paper 01 have it, for any
 -- number of nested levels. Steps, people and rules are numbered from 0, levels from 1. Assumes nothing.
-use mathlib.Core.Bool.{Bool, true, false, not, _&&_}
+use mathlib.Core.Bool.{Bool, true, false, not, cond, _&&_}
+use mathlib.Core.Logic.{_⊎_}
 use mathlib.Core.Path.{_≡_}
-use Prim.Native.Nat.{ℕ, suc, _≤_, _<_, min}
+use Prim.Native.Nat.{ℕ, zero, suc, _+_, _-_, _/_, _≤_, _<_, min, max}
 use lib.Dec.{eqb, leb, ltb}
 use Rattle.bits.specs.Below.{all, any, count}
 
--- the four kinds of rules, 1 to 4 on a card
+-- the five kinds of rules, 1 to 5 on a card
 pub data Kind : Type 0 where
-  same different atMost atLeast : Kind
+  same different atMost atLeast maxLoad : Kind
 
--- a rule bounds the number of different classes of its level over the steps of its scope
+-- a rule bounds the number of different classes of its level over the steps of its scope, and the load of each: how many of these steps it holds
 pub record Rule : Type 0 where
   pub level : ℕ
   pub least : ℕ
   pub most : ℕ
+  pub load : ℕ
   pub scope : ℕ → Bool
 
 -- a job; two people are in one class of a level exactly when they have the same class number there
@@ -71,24 +73,68 @@ pub record DifferentClasses (n : ℕ) (scope : ℕ → Bool) (c : ℕ → ℕ) (
 abbrev pub classCount : Job → Rule → Plan → ℕ
 classCount j r π = distinct (j .steps) (r .scope) (λ s. j .class (r .level) (π s))
 
+-- the load of class v: how many steps of a scope below n it holds, c giving the class of each step
+unfoldable pub loadOf : ℕ → (ℕ → Bool) → (ℕ → ℕ) → ℕ → ℕ
+loadOf n scope c v = count n (λ s. scope s && eqb (c s) v)
+
+-- the largest of f 0, .., f (n - 1), and 0 where there is none
+unfoldable pub largest : ℕ → (ℕ → ℕ) → ℕ
+largest zero f = 0
+largest (suc n) f = max (largest n f) (f n)
+
+-- "the largest number held by one class, 0 if none remain": of the classes of the steps of a scope below n
+unfoldable pub largestLoad : ℕ → (ℕ → Bool) → (ℕ → ℕ) → ℕ
+largestLoad n scope c = largest n (λ s. cond (scope s) (loadOf n scope c (c s)) 0)
+
+-- the class of some step of the scope holds so many; or there is no step, and the number is 0
+abbrev pub HeldBySome : ℕ → (ℕ → Bool) → (ℕ → ℕ) → ℕ → Type 0
+HeldBySome n scope c number = ((s : ℕ) × (s < n) × (scope s ≡ true) × (loadOf n scope c (c s) ≡ number)) ⊎ ((count n scope ≡ 0) × (number ≡ 0))
+
+-- what such a number says: some class holds so many, and none holds more
+pub record LargestLoad (n : ℕ) (scope : ℕ → Bool) (c : ℕ → ℕ) (number : ℕ) : Type 0 where
+  pub held : HeldBySome n scope c number
+  pub none-more : (v : ℕ) → loadOf n scope c v ≤ number
+
+-- the largest load of a class of a rule's level
+abbrev pub classLoad : Job → Rule → Plan → ℕ
+classLoad j r π = largestLoad (j .steps) (r .scope) (λ s. j .class (r .level) (π s))
+
+-- the figure that a kind looks at, of the number of different classes and the largest load
+abbrev pub lookedAt : Kind → ℕ → ℕ → ℕ
+lookedAt same classes load = classes
+lookedAt different classes load = classes
+lookedAt atMost classes load = classes
+lookedAt atLeast classes load = classes
+lookedAt maxLoad classes load = load
+
+-- over the steps of a scope below n
+abbrev pub figureOf : Kind → ℕ → (ℕ → Bool) → (ℕ → ℕ) → ℕ
+figureOf kind n scope c = lookedAt kind (distinct n scope c) (largestLoad n scope c)
+
 -- how many steps the scope has
 abbrev pub scopeCount : ℕ → Rule → ℕ
 scopeCount steps r = count steps (r .scope)
 
 -- "Kind 1, same: .. count 1"; "Kind 2, different: .. count 2"; "Kind 3, at most: .. count not above the limit"; "Kind 4, at least: .. count
--- not below the limit": of kind, limit and count
+-- not below the limit"; "Rule kind 5 ..: no class of the level holds more than the limit of the steps in scope": of kind, limit and figure
 abbrev pub Asks : Kind → ℕ → ℕ → Type 0
 Asks same limit n = n ≡ 1
 Asks different limit n = n ≡ 2
 Asks atMost limit n = n ≤ limit
 Asks atLeast limit n = limit ≤ n
+Asks maxLoad limit n = n ≤ limit
 
--- the same as bounds: the least count, of kind and limit
-abbrev pub leastOf : Kind → ℕ → ℕ
-leastOf same limit = 1
-leastOf different limit = 2
-leastOf atMost limit = 0
-leastOf atLeast limit = limit
+-- how many classes it takes to hold so many steps, each at most `load` of them: their quotient, rounded up
+unfoldable pub fewest : ℕ → ℕ → ℕ
+fewest size load = (size + (load - 1)) / load
+
+-- the same as bounds: the least count, of kind, limit and steps in scope. A limit on the load asks for no fewer classes than hold these steps
+abbrev pub leastOf : Kind → ℕ → ℕ → ℕ
+leastOf same limit size = 1
+leastOf different limit size = 2
+leastOf atMost limit size = 0
+leastOf atLeast limit size = limit
+leastOf maxLoad limit size = fewest size limit
 
 -- the greatest count, of kind, limit and number of steps, above which no count is
 abbrev pub mostOf : Kind → ℕ → ℕ → ℕ
@@ -96,25 +142,41 @@ mostOf same limit steps = 1
 mostOf different limit steps = 2
 mostOf atMost limit steps = limit
 mostOf atLeast limit steps = steps
+mostOf maxLoad limit steps = steps
+
+-- the greatest load, of kind, limit and number of steps, above which no load is
+abbrev pub heaviestOf : Kind → ℕ → ℕ → ℕ
+heaviestOf same limit steps = steps
+heaviestOf different limit steps = steps
+heaviestOf atMost limit steps = steps
+heaviestOf atLeast limit steps = steps
+heaviestOf maxLoad limit steps = limit
 
 -- the rule of a card, in a job of so many steps. Where skipped steps are left out (Skipped.antt), the least count is at most the steps left in its scope, and
--- the greatest at most those of the job
+-- the greatest count and load at most those of the job
 abbrev pub ruleOf : ℕ → Kind → ℕ → ℕ → (ℕ → Bool) → Rule
 ruleOf steps kind level limit scope =
-    record { level = level; least = min (leastOf kind limit) (count steps scope); most = min (mostOf kind limit steps) steps; scope = scope }
+    record {
+      level = level;
+      least = min (leastOf kind limit (count steps scope)) (count steps scope);
+      most = min (mostOf kind limit steps) steps;
+      load = min (heaviestOf kind limit steps) steps;
+      scope = scope;
+    }
 
--- the count lies within the rule's bounds
-pub record InBounds (r : Rule) (n : ℕ) : Type 0 where
+-- the count and the largest load lie within the rule's bounds
+pub record InBounds (r : Rule) (n largest : ℕ) : Type 0 where
   pub least : r .least ≤ n
   pub most : n ≤ r .most
+  pub load : largest ≤ r .load
 
 -- the plan meets the rule
 abbrev pub Met : Job → Rule → Plan → Type 0
-Met j r π = InBounds r (classCount j r π)
+Met j r π = InBounds r (classCount j r π) (classLoad j r π)
 
 -- the same as a test
 abbrev pub met : Job → Rule → Plan → Bool
-met j r π = leb (r .least) (classCount j r π) && leb (classCount j r π) (r .most)
+met j r π = leb (r .least) (classCount j r π) && leb (classCount j r π) (r .most) && leb (classLoad j r π) (r .load)
 
 -- "It is valid when each person is permitted the step and all rules are met"; document 004: authorized and eligible
 pub record Valid (j : Job) (may : May) (π : Plan) : Type 0 where
@@ -142,6 +204,7 @@ Fits same limit size = (size ≡ 2) × (limit ≡ 0)
 Fits different limit size = (size ≡ 2) × (limit ≡ 0)
 Fits atMost limit size = (2 ≤ size) × (1 ≤ limit) × (limit ≤ size)
 Fits atLeast limit size = (2 ≤ size) × (1 ≤ limit) × (limit ≤ size)
+Fits maxLoad limit size = (2 ≤ size) × (1 ≤ limit) × (limit ≤ size)
 
 -- a rule of one of the levels whose bounds the steps of its scope, and all steps, can reach: what a readable sheet's rule is known by
 pub record RuleOk (steps levels : ℕ) (r : Rule) : Type 0 where

@@ -17,6 +17,7 @@ pub record Renamed (j j′ : Job) : Type 0 where
   pub rules : j′ .rules ≡ j .rules
   pub least : (i : ℕ) → i < j .rules → j′ .rule i .least ≡ j .rule i .least
   pub most : (i : ℕ) → i < j .rules → j′ .rule i .most ≡ j .rule i .most
+  pub load : (i : ℕ) → i < j .rules → j′ .rule i .load ≡ j .rule i .load
   pub scope : (i s : ℕ) → i < j .rules → j′ .rule i .scope s ≡ j .rule i .scope s
   pub classes : (i p p′ : ℕ) → i < j .rules → p < j .people → p′ < j .people
       → (j .class (j .rule i .level) p ≡ j .class (j .rule i .level) p′) ↔ (j′ .class (j′ .rule i .level) p ≡ j′ .class (j′ .rule i .level) p′)

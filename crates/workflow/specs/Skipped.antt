@@ -5,7 +5,7 @@ use mathlib.Core.Logic.{_⊎_}
 use mathlib.Core.Path.{_≡_}
 use Prim.Native.Nat.{ℕ, _<_, min}
 use Rattle.bits.specs.Below.{count}
-use Rattle.workflow.specs.Problem.{Kind, same, different, atMost, atLeast, May, Plan, Asks, distinct}
+use Rattle.workflow.specs.Problem.{Kind, same, different, atMost, atLeast, maxLoad, May, Plan, Asks, figureOf}
 
 -- a rule as its card has it
 pub record CardRule : Type 0 where
@@ -32,24 +32,25 @@ scopeLeft m r s = r .scope s && not (m .skipped s)
 abbrev pub sizeLeft : MarkedJob → CardRule → ℕ
 sizeLeft m r = count (m .steps) (scopeLeft m r)
 
--- the number of different classes of its level among the people given to the steps left in its scope
-abbrev pub countLeft : MarkedJob → CardRule → Plan → ℕ
-countLeft m r π = distinct (m .steps) (scopeLeft m r) (λ s. m .class (r .level) (π s))
+-- the figure that its kind looks at, over the steps left in its scope: "Skipped steps don't count."
+abbrev pub figureLeft : MarkedJob → CardRule → Plan → ℕ
+figureLeft m r π = figureOf (r .kind) (m .steps) (scopeLeft m r) (λ s. m .class (r .level) (π s))
 
 -- "A same or different rule left with fewer than two steps is met; an at-least limit becomes the smaller of itself and the steps left." At most is as
--- it was. Of kind, limit, steps left and count
+-- it was, and so is a limit on the load. Of kind, limit, steps left and figure
 abbrev pub AsksLeft : Kind → ℕ → ℕ → ℕ → Type 0
 AsksLeft same limit left n = (left < 2) ⊎ Asks same limit n
 AsksLeft different limit left n = (left < 2) ⊎ Asks different limit n
 AsksLeft atMost limit left n = Asks atMost limit n
 AsksLeft atLeast limit left n = Asks atLeast (min limit left) n
+AsksLeft maxLoad limit left n = Asks maxLoad limit n
 
 -- "A valid plan, in all that we promise, is from here on one over the remaining steps." Skipped steps get nobody: what π gives them does not matter
 pub record ValidLeft (m : MarkedJob) (may : May) (π : Plan) : Type 0 where
   pub within : (s : ℕ) → s < m .steps → m .skipped s ≡ false → π s < m .people
   pub authorised : (s : ℕ) → s < m .steps → m .skipped s ≡ false → may s (π s) ≡ true
   pub eligible : (i : ℕ) → i < m .rules
-      → AsksLeft (m .rule i .kind) (m .rule i .limit) (sizeLeft m (m .rule i)) (countLeft m (m .rule i) π)
+      → AsksLeft (m .rule i .kind) (m .rule i .limit) (sizeLeft m (m .rule i)) (figureLeft m (m .rule i) π)
 
 -- the job has a valid plan
 abbrev pub SatisfiableLeft : MarkedJob → May → Type 0
@@ -68,9 +69,9 @@ pub record FirstValidLeft (m : MarkedJob) (may : May) (π : Plan) : Type 0 where
   pub valid : ValidLeft m may π
   pub first : (σ : Plan) → ValidLeft m may σ → EarlierLeft m σ π → ⊥
 
--- without a skipped step, as paper 01 has it: every step is given one of the people, is permitted, and each rule's count is what its kind asks for
+-- without a skipped step, as paper 01 has it: every step is given one of the people, is permitted, and each rule's figure is what its kind asks for
 pub record ValidWhole (m : MarkedJob) (may : May) (π : Plan) : Type 0 where
   pub within : (s : ℕ) → s < m .steps → π s < m .people
   pub authorised : (s : ℕ) → s < m .steps → may s (π s) ≡ true
   pub eligible : (i : ℕ) → i < m .rules
-      → Asks (m .rule i .kind) (m .rule i .limit) (distinct (m .steps) (m .rule i .scope) (λ s. m .class (m .rule i .level) (π s)))
+      → Asks (m .rule i .kind) (m .rule i .limit) (figureOf (m .rule i .kind) (m .steps) (m .rule i .scope) (λ s. m .class (m .rule i .level) (π s)))

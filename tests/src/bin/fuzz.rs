@@ -1,14 +1,15 @@
 //! Compares the program `trials` with the model on random sheets.
 
-use model::card::CARD;
+use model::card::{CARD, RULE};
 use model::garble::{sample, Sample};
-use model::job::Form;
+use model::job::{Form, Job, MAX_LOAD, SAME};
 use model::random::Random;
 use model::reader::{read, text};
-use model::refusal::{BAD_LENGTH, LOOSE_CARD};
+use model::refusal::{Refusal, BAD_FIELD, BAD_LENGTH, LOOSE_CARD};
 use sheet_tests::forms::{can_refuse, on_sheet, wanted};
 use sheet_tests::records;
 use sheet_tests::tally::Tally;
+use std::collections::BTreeSet;
 use std::io::{BufRead, BufReader, Write};
 use std::process::{Command, ExitCode, Stdio};
 use std::{env, thread};
@@ -53,28 +54,51 @@ fn fault(name: usize, sample: &Sample, line: Option<&String>) -> Option<String> 
     }
 }
 
-/// By how many steps a readable sheet skips. A run in which one of these, or a refusal, was never met on sheets of a form has
-/// failed.
+/// By how many steps a readable sheet skips. A run in which one of these, a refusal, or a rule of some kind was never met on
+/// sheets of a form has failed.
 const READABLE: [&str; 3] = ["readable", "readable, some steps skipped", "readable, all steps skipped"];
 
 fn refusal(number: u32) -> String {
     format!("refusal {number:2}")
 }
 
+fn has_kind(kind: u8) -> String {
+    format!("readable, a rule of kind {kind}")
+}
+
+/// Kinds that there are, and those just beyond them.
+fn bad_rule(kind: u8) -> String {
+    let more = if kind > MAX_LOAD + 1 { " or more" } else { "" };
+    format!("refusal  8, a rule of kind {}{more}", kind.min(MAX_LOAD + 2))
+}
+
 /// What has to be met on sheets of a form.
 fn outcomes(form: Form) -> Vec<String> {
     let refusals = (BAD_LENGTH..=LOOSE_CARD).filter(|&number| can_refuse(form, number)).map(refusal);
-    READABLE.map(String::from).into_iter().chain(refusals).collect()
+    let rules = (SAME..=MAX_LOAD).map(has_kind);
+    let bad_rules = (SAME - 1..=MAX_LOAD + 2).map(bad_rule);
+    READABLE.map(String::from).into_iter().chain(refusals).chain(rules).chain(bad_rules).collect()
 }
 
-fn outcome(sample: &Sample) -> String {
-    let job = match read(&sample.sheet) {
-        Err(refused) => return refusal(refused.number),
-        Ok(job) => job,
-    };
+fn of_job(job: &Job) -> Vec<String> {
     let left = job.remaining().count();
     let skipped = if left == job.steps.len() { 0 } else { 1 + usize::from(left == 0) };
-    READABLE[skipped].to_string()
+    let kinds: BTreeSet<u8> = job.rules.iter().map(|rule| rule.kind).collect();
+    [READABLE[skipped].to_string()].into_iter().chain(kinds.into_iter().map(has_kind)).collect()
+}
+
+fn of_refusal(sheet: &[u8], refused: Refusal) -> Vec<String> {
+    let is_field = refused.number == BAD_FIELD;
+    let held = if is_field { &sheet[refused.card * CARD..] } else { &[] };
+    let more = held.first().filter(|kind| **kind == RULE).map(|_| bad_rule(held[1]));
+    [refusal(refused.number)].into_iter().chain(more).collect()
+}
+
+fn met(sample: &Sample) -> Vec<String> {
+    match read(&sample.sheet) {
+        Ok(job) => of_job(&job),
+        Err(refused) => of_refusal(&sample.sheet, refused),
+    }
 }
 
 fn run(count: usize, seed: u64, program: &str) -> std::io::Result<Tally> {
@@ -86,7 +110,7 @@ fn run(count: usize, seed: u64, program: &str) -> std::io::Result<Tally> {
         let samples: Vec<Sample> = (0..size).map(|_| sample(&mut random)).collect();
         let lines = answers(program, done, &samples, random.below(3 + 9 + CARD))?;
         for (k, sample) in samples.iter().enumerate() {
-            tally.count(on_sheet(&sample.sheet, &outcome(sample)));
+            met(sample).iter().for_each(|outcome| tally.count(on_sheet(&sample.sheet, outcome)));
             let faults: Vec<String> = fault(done + k, sample, lines.get(k)).into_iter().collect();
             tally.enter((done + k) as u64, &sample.sheet, &faults);
         }

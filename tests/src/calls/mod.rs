@@ -1,7 +1,8 @@
 //! The paper's sheets to try through the calls that plan, each with the number and the bytes that the paper gives it; then caps,
-//! the order of refusals, skipped steps, and sheets of version 2.
+//! the order of refusals, skipped steps, rules of kind 5, and sheets of version 2.
 
 mod levels;
+mod loads;
 
 use crate::by_hand::{self, Sheet};
 use model::answers::{crew_bytes, spare_bytes, Call, MOST_CAP, SPARE_BYTES, STEP_BYTES};
@@ -75,6 +76,7 @@ pub fn all() -> Vec<Trial> {
     trials.extend(by_hand::in_every_form().iter().flat_map(worked_out));
     trials.extend(rooms_of_skipped());
     trials.extend(all_skipped());
+    trials.extend(loads::trials());
     trials.extend(levels::trials());
     let crews: Vec<Trial> = trials.iter().filter(|trial| trial.call == Call::Crew).cloned().collect();
     trials.extend(crews.iter().map(by_trial));

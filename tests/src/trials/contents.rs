@@ -62,10 +62,16 @@ fn rule_field() -> Vec<Trial> {
         (4, 1, 1, 5),
         (4, 2, 3, 7),
         (4, 3, 2, 3),
+        (5, 1, 1, 3),
+        (5, 2, 2, 6),
+        (5, 3, 1, 7),
+        (5, 1, 3, 7),
     ];
     let bad = [
         (0, 1, 0, 6),
-        (5, 1, 1, 6),
+        (6, 1, 1, 6),
+        (6, 1, 0, 6),
+        (7, 1, 2, 7),
         (255, 1, 0, 6),
         (1, 0, 0, 6),
         (1, 4, 0, 6),
@@ -89,6 +95,16 @@ fn rule_field() -> Vec<Trial> {
         (4, 1, 3, 3),
         (4, 1, 255, 7),
         (4, 1, 1, 1),
+        (5, 1, 0, 6),
+        (5, 1, 3, 6),
+        (5, 1, 4, 7),
+        (5, 1, 255, 7),
+        (5, 1, 1, 4),
+        (5, 1, 1, 0),
+        (5, 0, 1, 6),
+        (5, 4, 1, 6),
+        (5, 1, 2, 11),
+        (5, 1, 1, 0x0107),
         (1, 1, 0, 9),
         (1, 1, 0, 12),
         (2, 1, 0, 0x8001),
@@ -105,11 +121,21 @@ fn rule_field() -> Vec<Trial> {
         trial("8, last rule of kind 9", sheet_w().byte(10, 1, 9), refused(8, 10)),
         trial("8, 12 steps in scope, limit 12", plain(1, 12, 1).byte(14, 5, 12).word(14, 6, 4_095), reads(1, 12, 1)),
         trial("8, 12 steps in scope, limit 13", plain(1, 12, 1).byte(14, 5, 13).word(14, 6, 4_095), refused(8, 14)),
+        trial("8, kind 5 over 12 steps, limit 12", of_kind_5(12), reads(1, 12, 1)),
+        trial("8, kind 5 over 12 steps, limit 13", of_kind_5(13), refused(8, 14)),
+        trial("8, kind 5 over 12 steps, limit 0", of_kind_5(0), refused(8, 14)),
+        trial("8, kind 5, unnamed byte 8 is 1", of_kind_5(1).byte(14, 8, 1), refused(8, 14)),
+        trial("8, last rule of kind 6", sheet_w().byte(10, 1, 6), refused(8, 10)),
         trial("8, 12 steps there, scope bit 12", plain(1, 12, 1).word(14, 6, 4_097), refused(8, 14)),
         trial("8, rule 64 of 64 with limit 0", plain(1, 2, 64).byte(67, 5, 0), refused(8, 67)),
         trial("8, mixed cards, second rule's scope empty", spread_w().word(3, 6, 0), refused(8, 3)),
     ]);
     trials
+}
+
+/// One person and 12 steps, with a rule of kind 5 over all of them, card 14.
+fn of_kind_5(limit: u8) -> Draft {
+    plain(1, 12, 1).byte(14, 1, 5).byte(14, 5, limit).word(14, 6, 4_095)
 }
 
 fn tag() -> Vec<Trial> {

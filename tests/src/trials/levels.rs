@@ -5,11 +5,12 @@ use super::{planned, reads, refused, trial, Trial};
 use crate::levels::{self, each_number, second};
 use model::builder::{job_w_in, lay_at, plain_in, sheet_w, sheet_w_in, Draft};
 use model::card::{CLASSES, CLASS_LEVELS, MOST_BYTES};
-use model::job::{AT_LEAST, AT_MOST, DIFFERENT, SAME};
+use model::job::{AT_LEAST, AT_MOST, DIFFERENT, MAX_LOAD, SAME};
 
 pub fn trials() -> Vec<Trial> {
     let mut trials: Vec<Trial> = levels::all().iter().map(planned).collect();
     trials.extend(levels::of_skipped().iter().map(planned));
+    trials.extend(levels::of_loads().iter().map(planned));
     trials.extend(versions());
     trials.extend(headers());
     trials.extend(each_number().flat_map(each_refusal));
@@ -156,13 +157,17 @@ fn fields(levels: u8) -> Vec<Trial> {
 /// A rule of each kind at each level, the person's and those beyond it.
 fn rules(levels: u8) -> Vec<Trial> {
     let mut trials = vec![];
-    for (kind, limit) in [(SAME, 0), (DIFFERENT, 0), (AT_MOST, 2), (AT_LEAST, 1)] {
+    for (kind, limit) in [(SAME, 0), (DIFFERENT, 0), (AT_MOST, 2), (AT_LEAST, 1), (MAX_LOAD, 2)] {
         for level in [0, 1, 2, 3, 4, 5, 255] {
             let good = (1..=levels + 1).contains(&level);
             let answer = if good { reads(4, 3, 3) } else { refused(8, 9) };
             let sheet = w(levels).byte(9, 1, kind).byte(9, 4, level).byte(9, 5, limit);
             trials.push(trial(format!("levels {levels}, rule of kind {kind} and level {level}"), sheet, answer));
         }
+    }
+    for (kind, limit) in [(MAX_LOAD, 0), (MAX_LOAD, 3), (MAX_LOAD + 1, 0), (MAX_LOAD + 1, 1)] {
+        let sheet = w(levels).byte(9, 1, kind).byte(9, 5, limit);
+        trials.push(trial(format!("levels {levels}, rule of kind {kind} and limit {limit}"), sheet, refused(8, 9)));
     }
     trials
 }

@@ -11,7 +11,7 @@ mod skipped;
 mod together;
 
 use crate::by_hand::Sheet;
-use crate::records;
+use crate::{loads, records};
 use model::builder::{lay, Draft};
 use model::reader::{read, text};
 
@@ -50,6 +50,7 @@ pub fn all() -> Vec<Trial> {
     trials.extend(together::trials());
     trials.extend(skipped::trials());
     trials.extend(levels::trials());
+    trials.extend(loads::all().iter().map(planned));
     trials
 }
 

@@ -7,6 +7,7 @@ pub fn trials() -> Vec<Trial> {
     let mut trials = indices();
     trials.extend(counts());
     trials.extend(values());
+    trials.extend(loads());
     trials
 }
 
@@ -102,6 +103,23 @@ fn values() -> Vec<Trial> {
         trial("point 11, a loose person card is not counted", w().next(3, 0).long(4, 4, 101), refused(12, 4)),
         trial("point 13, 2,272 bytes, a good sheet in front", plain(64, 12, 64).and(&[0; 16]), refused(3, 0)),
         trial("point 13, 4,112 bytes, a good sheet in front", plain(64, 12, 64).and(&[0; 1_856]), refused(3, 0)),
+    ]
+}
+
+/// Point 27: kind 5 and its limit.
+fn loads() -> Vec<Trial> {
+    let kind_5 = |limit| sheet_w().byte(9, 1, 5).byte(9, 5, limit);
+    let skipped = |limit| kind_5(limit).skip(6).skip(7);
+    vec![
+        trial("point 27, kind 5 with limit 1", kind_5(1), reads(4, 3, 3)),
+        trial("point 27, kind 5, limit is the scope's size", kind_5(2), reads(4, 3, 3)),
+        trial("point 27, kind 5, limit above the scope's size", kind_5(3), refused(8, 9)),
+        trial("point 27, kind 5 with limit 0", kind_5(0), refused(8, 9)),
+        trial("point 27, kind 5, the scope's size as on the card", skipped(2), reads(4, 1, 3)),
+        trial("point 27, kind 5 with both steps skipped, limit 3", skipped(3), refused(8, 9)),
+        trial("point 27, kind 5 in version 2", kind_5(2).byte(0, 1, 2).byte(0, 12, 2), reads(4, 3, 3)),
+        trial("point 27, kind 6", kind_5(1).byte(9, 1, 6), refused(8, 9)),
+        trial("point 27, version 2, step byte 8", kind_5(2).byte(0, 1, 2).byte(0, 12, 2).byte(6, 8, 1), refused(8, 6)),
     ]
 }
 

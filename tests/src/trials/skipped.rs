@@ -67,6 +67,11 @@ fn rules() -> Vec<Trial> {
         trial("skipped, kind 4 over three, one left, limit 0", wide(0), refused(8, 9)),
         trial("skipped, kind 3 over three, one left, limit 3", wide(3).byte(9, 1, 3), reads(4, 1, 3)),
         trial("skipped, kind 3 over three, one left, limit 4", wide(4).byte(9, 1, 3), refused(8, 9)),
+        trial("skipped, kind 5 over three, one left, limit 1", wide(1).byte(9, 1, 5), reads(4, 1, 3)),
+        trial("skipped, kind 5 over three, one left, limit 3", wide(3).byte(9, 1, 5), reads(4, 1, 3)),
+        trial("skipped, kind 5 over three, one left, limit 4", wide(4).byte(9, 1, 5), refused(8, 9)),
+        trial("skipped, kind 5 over three, one left, limit 0", wide(0).byte(9, 1, 5), refused(8, 9)),
+        trial("skipped, kind 6 over three, one left, limit 3", wide(3).byte(9, 1, 6), refused(8, 9)),
     ]
 }
 

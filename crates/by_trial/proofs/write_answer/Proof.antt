@@ -8,8 +8,8 @@ use Rattle.answer.proofs.Returnable.{read-returnable}
 use Rattle.answer.proofs.WasRead.{was-readable}
 use Rattle.answer.proofs.Found.{found-within}
 use Rattle.sheet.specs.Readable.{ReadableJob}
-use Rattle.instance.specs.Counts.{Staffed}
-use Rattle.instance.proofs.Counted.{staffed, rules-staffed}
+use Rattle.instance.specs.Figures.{Staffed}
+use Rattle.instance.proofs.Figured.{staffed, rules-staffed}
 use Rattle.by_trial.proofs.write_answer.Statement.{statement}
 use Rattle.by_trial.proofs.write_answer.Tie as tie
 
@@ -94,8 +94,8 @@ within c =
 write-plan-requires : tie.Need-write-plan-requires
 write-plan-requires c κs = let e = c .before .before in (readable (chosen e .before) .steps-most, sized (e .before), within e)
 
-rule-counts-requires : tie.Need-rule-counts-requires
-rule-counts-requires c κs = let e = c .before .before .before .before in rules-staffed (readable (chosen e .before)) (chosen e .try-every .result .plan) (sized (e .before)) (within e)
+rule-figures-requires : tie.Need-rule-figures-requires
+rule-figures-requires c κs = let e = c .before .before .before .before in rules-staffed (readable (chosen e .before)) (chosen e .try-every .result .plan) (sized (e .before)) (within e)
 
 write-rules-requires : tie.Need-write-rules-requires
 write-rules-requires c κs = let e = c .before .before .before .before .before .before in (readable (chosen e .before) .rules-most, search needs)
@@ -108,4 +108,4 @@ write-answer-spec =
     tie.close
     (tie.spec read-job-requires enum-known-reading enum-told number-requires write-refusal-requires returns try-every-requires
     slice-aggregate-text text-requires figure-requires slice-aggregate-text-2 text-requires-2 few-plans-requires write-trials-requires
-    returned-requires write-refusal-requires-2 returns-2 write-plan-requires rule-counts-requires write-rules-requires returns-3)
+    returned-requires write-refusal-requires-2 returns-2 write-plan-requires rule-figures-requires write-rules-requires returns-3)

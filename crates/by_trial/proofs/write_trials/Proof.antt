@@ -9,7 +9,7 @@ use borrow.Author.Tests.{not-false}
 use Rattle.workflow.specs.First.{planOf}
 use Rattle.workflow.specs.Problem.{OfPeople}
 use Rattle.sheet.specs.Readable.{ReadableJob}
-use Rattle.instance.proofs.Counted.{staffed, rules-staffed}
+use Rattle.instance.proofs.Figured.{staffed, rules-staffed}
 use Rattle.instance.specs.Instance.{instanceOf, mayOf}
 use Rattle.exhaustive.specs.Order.{NextPlan}
 use Rattle.exhaustive.proofs.Trying.{trying-first}

@@ -8,7 +8,7 @@ use Rattle.bits.proofs.Says.{says-true, says-false}
 use Rattle.workflow.specs.Problem.{Valid}
 use Rattle.workflow.specs.First.{planOf}
 use Rattle.instance.specs.Instance.{instanceOf, mayOf}
-use Rattle.instance.proofs.Counted.{staffed, rules-staffed}
+use Rattle.instance.proofs.Figured.{staffed, rules-staffed}
 use Rattle.exhaustive.specs.Order.{NextPlan, planNumber}
 use Rattle.exhaustive.proofs.Order.{number-below}
 use Rattle.exhaustive.proofs.Trying.{Trying, trying-first, trying-found, trying-next, trying-none}

@@ -5,7 +5,7 @@ use native.Mathlib.Omega.{arith}
 use lib.ListN.{getD}
 use Rattle.levels.proofs.Copying.{renumbered-more}
 use Rattle.levels.specs.Trims.{Renumbered}
-use Rattle.pattern.specs.Rule.{leastIn, mostIn, scopeIn, Packed}
+use Rattle.pattern.specs.Rule.{leastIn, mostIn, loadIn, scopeIn, Packed}
 use Rattle.levels.proofs.renumber.Statement.{statement}
 use Rattle.levels.proofs.renumber.Tie as tie
 
@@ -64,7 +64,7 @@ loop-again c =
     let r = getD (a .rule .now) (l .i) 0 in (
       omega arith,
       renumbered-more (l .i) (c .moved .result) (a .rule .now) (a .new .now) (l .kept) (omega (arith, c .before .before .before .before .before .before .before .pre .0 .few-rules))
-          (subst (λ (q : ℕ). Packed (getD (a .new .now) q 0 % 16) (leastIn r) (mostIn r) (scopeIn r) (c .moved .result)) (c .before .before .before .level .ensures .0) (c .moved .ensures))
+          (subst (λ (q : ℕ). Packed (getD (a .new .now) q 0 % 16) (leastIn r) (mostIn r) (loadIn r) (scopeIn r) (c .moved .result)) (c .before .before .before .level .ensures .0) (c .moved .ensures))
           (l .inv .1),
     )
 

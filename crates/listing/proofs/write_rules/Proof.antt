@@ -1,4 +1,4 @@
--- `listing::write_rules` is safe and ends: each rule has its fields and a count. Assumes nothing.
+-- `listing::write_rules` is safe and ends: each rule has its fields and a figure. Assumes nothing.
 use Prim.Native.Nat.{_-_, _≤_}
 use native.Mathlib.Omega.{arith}
 use borrow.Author.Needs.{needs}
@@ -6,10 +6,10 @@ use Rattle.listing.proofs.write_rules.Statement.{statement}
 use Rattle.listing.proofs.write_rules.Tie as tie
 
 abbrev Inv-loop : tie.InvT-loop
-Inv-loop rules counts kind level limit i₀ i = i ≤ rules
+Inv-loop rules figures kind level limit i₀ i = i ≤ rules
 
 abbrev μ-loop : tie.MeasureT-loop
-μ-loop rules counts kind level limit i₀ i = rules - i
+μ-loop rules figures kind level limit i₀ i = rules - i
 
 loop-holds : tie.Need-loop-holds Inv-loop μ-loop
 loop-holds c = omega arith

@@ -9,7 +9,7 @@ use Rattle.workflow.specs.Problem.{OfPeople}
 use Rattle.instance.specs.Instance.{instanceOf}
 use Rattle.workflow.specs.First.{planOf}
 use Rattle.answer.proofs.Found.{found-within}
-use Rattle.instance.proofs.Counted.{staffed, rules-staffed}
+use Rattle.instance.proofs.Figured.{staffed, rules-staffed}
 use Rattle.planner.proofs.write_answer.Statement.{statement}
 use Rattle.planner.proofs.write_answer.Tie as tie
 
@@ -81,8 +81,8 @@ write-plan-requires c κs =
 write-spare-requires : tie.Need-write-spare-requires
 write-spare-requires c κs = search needs
 
-rule-counts-requires : tie.Need-rule-counts-requires
-rule-counts-requires c κs =
+rule-figures-requires : tie.Need-rule-figures-requires
+rule-figures-requires c κs =
     let e = chosen (c .before .before .before .before) in
     let w = readable (e .before .before .before) in
     rules-staffed w (e .before .before .plan-job .result .plan) (search needs) (staffed w (e .before .before .plan-job .result .plan) (within e))
@@ -115,6 +115,6 @@ write-answer-spec =
     returns-3
     write-plan-requires
     write-spare-requires
-    rule-counts-requires
+    rule-figures-requires
     write-rules-requires
     returns-4)

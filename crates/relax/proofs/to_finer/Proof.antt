@@ -64,6 +64,9 @@ most-requires-2 c κs =
 least-requires : tie.Need-least-requires
 least-requires c κs = search needs
 
+load-requires : tie.Need-load-requires
+load-requires c κs = search needs
+
 scope-requires-2 : tie.Need-scope-requires-2
 scope-requires-2 c κs = search needs
 
@@ -91,12 +94,16 @@ bound c = c .most2 .ensures ∙ ap (λ (m : ℕ). together (found c .counts) m (
 
 returns-2 : tie.Need-returns-2
 returns-2 c =
-    let t = c .before .before .before .before .before in
+    let l = c .before .before in
+    let t = l .before .before .before .before in
     let s = start t in
-    follows-all (s .pre .0) (s .pre .1) (counted t) (packed-as (c .before .before .least .ensures .0) refl (c .before .scope2 .ensures) (c .pack .ensures))
+    follows-all (s .pre .0) (s .pre .1) (counted t) (packed-as (l .before .least .ensures .0) refl (l .load .ensures .0) (c .before .scope2 .ensures) (c .pack .ensures))
 
 least-requires-2 : tie.Need-least-requires-2
 least-requires-2 c κs = search needs
+
+load-requires-2 : tie.Need-load-requires-2
+load-requires-2 c κs = search needs
 
 scope-requires-3 : tie.Need-scope-requires-3
 scope-requires-3 c κs = search needs
@@ -106,10 +113,11 @@ pack-requires-2 c κs = search needs
 
 returns-3 : tie.Need-returns-3
 returns-3 c =
-    let t = c .before .before .before .before .before in
+    let l = c .before .before in
+    let t = l .before .before .before .before in
     let s = start t in
-    follows-limited (s .pre .0) (s .pre .1) (counted t) (subst (λ (b : ℕ). b < s .args .size .steps) (bound t) (omega (arith, c .before .before .before .if2 .left)))
-    (packed-as (c .before .before .least2 .ensures .0) (bound t) (c .before .scope3 .ensures) (c .pack2 .ensures))
+    follows-limited (s .pre .0) (s .pre .1) (counted t) (subst (λ (b : ℕ). b < s .args .size .steps) (bound t) (omega (arith, l .before .before .if2 .left)))
+    (packed-as (l .before .least2 .ensures .0) (bound t) (l .load2 .ensures .0) (c .before .scope3 .ensures) (c .pack2 .ensures))
 
 pub to-finer-spec : {M : Type 1} → statement M
 to-finer-spec =
@@ -125,10 +133,12 @@ to-finer-spec =
     cast-most
     most-requires-2
     least-requires
+    load-requires
     scope-requires-2
     pack-requires
     returns-2
     least-requires-2
+    load-requires-2
     scope-requires-3
     pack-requires-2
     returns-3)

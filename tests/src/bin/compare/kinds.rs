@@ -2,11 +2,12 @@
 
 use model::answers::{Answer, Call, MOST_CAP, STEP_BYTES};
 use model::job::{Form, Job, MOST_PEOPLE, MOST_RULES, MOST_STEPS};
-use model::plans::plans;
+use model::plans::{first_plan, plans, spare as spare_of};
 use model::reader::read;
 use model::refusal::{Refusal, BAD_LENGTH, CAP_TOO_HIGH, NO_PLAN, SHORT_ANSWER};
 use model::trial::SHOWN;
 use sheet_tests::forms::{can_refuse, on_sheet, wanted};
+use sheet_tests::loads::{load_levels, without_loads};
 use sheet_tests::skipped::skips_some;
 
 const CREWS: [Call; 2] = [Call::Crew, Call::CrewByTrial];
@@ -35,6 +36,19 @@ const SHORT_FOR_ALL: &str = "an area too short for the skipped steps";
 
 /// Of the spare count where no step remains.
 const FEWER_PEOPLE: &str = "all steps skipped, fewer people than the cap";
+
+/// What rules of kind 5 at a level have changed: without them it would be otherwise.
+fn moved_by_load(level: u8) -> String {
+    format!("another plan for kind 5 at level {level}")
+}
+
+fn none_by_load(level: u8) -> String {
+    format!("no plan for kind 5 at level {level} alone")
+}
+
+fn lowered_by_load(level: u8) -> String {
+    format!("a lower count for kind 5 at level {level}")
+}
 
 fn spare(count: u32, cap: u32) -> String {
     format!("{count} of {cap}")
@@ -68,6 +82,16 @@ fn place(job: &Job, area: &[u8]) -> &'static str {
     }
 }
 
+/// What the rules of kind 5 have done to the crew, level by level.
+fn of_loads(job: &Job) -> Vec<String> {
+    if load_levels(job).next().is_none() {
+        return vec![];
+    }
+    let plan = first_plan(job, &[]);
+    let moved = load_levels(job).filter(|&level| first_plan(&without_loads(job, level), &[]) != plan);
+    moved.map(if plan.is_some() { moved_by_load } else { none_by_load }).collect()
+}
+
 /// The ends of a crew call that has found a plan, or none after all were tried.
 fn of_crew(job: &Job, answer: &Answer) -> Vec<String> {
     let end = match answer.number {
@@ -76,7 +100,8 @@ fn of_crew(job: &Job, answer: &Answer) -> Vec<String> {
     };
     let much = MUCH.iter().filter(|(_, has)| has(job)).map(|(much, _)| with_much(much, &end));
     let short = answer.number == 0 && answer.area.len() < STEP_BYTES * job.steps.len();
-    much.chain([end.clone()]).chain(short.then(|| SHORT_FOR_ALL.to_string())).collect()
+    let short = short.then(|| SHORT_FOR_ALL.to_string());
+    much.chain([end.clone()]).chain(short).chain(of_loads(job)).collect()
 }
 
 /// The ends of a spare call that has found a count.
@@ -86,6 +111,11 @@ fn of_spare(job: &Job, answer: &Answer, cap: u32) -> Vec<String> {
         ends.push(all_skipped(cap));
         ends.extend((job.people.len() < cap as usize).then(|| FEWER_PEOPLE.to_string()));
     }
+    let lowers = |level: &u8| {
+        let without = spare_of(&without_loads(job, *level), cap as usize);
+        without.is_some_and(|spare| spare.count > answer.area[0].into())
+    };
+    ends.extend(load_levels(job).filter(lowers).map(lowered_by_load));
     ends
 }
 
@@ -108,7 +138,7 @@ pub fn of(call: Call, sheet: &[u8], answer: &Answer) -> Vec<String> {
 }
 
 /// Every kind: each refusal of each call, the short area among them, every spare count, crews by their place and by the size
-/// of their job, and what skipped steps change; all of it on sheets of every form.
+/// of their job, what skipped steps change and what rules of kind 5 do; all of it on sheets of every form.
 pub fn all() -> Vec<String> {
     wanted(in_one_form)
 }
@@ -120,7 +150,10 @@ fn in_one_form(form: Form) -> Vec<String> {
     let mut crews: Vec<String> = refusals(&[SHORT_ANSWER]).collect();
     crews.extend([EMPTY, ONLY, FIRST, LATER, LAST, SHORT_FOR_ALL].map(String::from));
     crews.extend(tried.iter().flat_map(|end| MUCH.map(|(much, _)| with_much(much, end))));
+    let levels = 1..=form.person_level();
+    crews.extend(levels.clone().flat_map(|level| [moved_by_load(level), none_by_load(level)]));
     let mut spares: Vec<String> = refusals(&[SHORT_ANSWER, CAP_TOO_HIGH]).collect();
+    spares.extend(levels.map(lowered_by_load));
     spares.extend((0..=MOST_CAP).flat_map(|cap| (0..=cap).map(move |count| spare(count, cap))));
     spares.extend((0..=MOST_CAP).map(all_skipped).chain([FEWER_PEOPLE.to_string()]));
     let kinds = CREWS.into_iter().flat_map(|call| of_call(call, crews.clone()));
@@ -186,6 +219,21 @@ mod tests {
     }
 
     #[test]
+    fn what_rules_of_kind_5_change_is_told_level_by_level() {
+        let (crew, spare) = (Call::Crew, Call::Spare { cap: 2 });
+        let moved = ["crew, a later plan", "crew, another plan for kind 5 at level 2"];
+        assert_eq!(kinds(crew, &w_and(5, 2, 2, 7), 24), moved);
+        assert_eq!(
+            kinds(spare, &w_and(5, 2, 2, 7), 16),
+            ["spare, 0 of 2", "spare, a lower count for kind 5 at level 2"]
+        );
+        let none = ["crew, refusal 13", "crew, no plan for kind 5 at level 1 alone"];
+        assert_eq!(kinds(crew, &w_and(5, 1, 2, 7), 24), none);
+        assert_eq!(kinds(crew, &w_and(5, 2, 3, 7), 24), ["crew, a later plan"]);
+        assert_eq!(kinds(spare, &w_and(5, 2, 3, 7), 16), ["spare, 1 of 2"]);
+    }
+
+    #[test]
     fn ends_are_told_apart_by_the_form_of_the_sheet() {
         for (class_levels, form) in [(1, "1 class level"), (2, "2 class levels"), (3, "3 class levels")] {
             let w = sheet_w_in(Form::Second { class_levels });
@@ -203,7 +251,8 @@ mod tests {
         for call in [Call::Crew, Call::CrewByTrial, Call::Spare { cap: 2 }] {
             let sheets = [sheet_w(), sheet_w().cut(24), lay(&last_alone(2, 12)), w_and(3, 3, 1, 7)];
             let others = [sheet_w().skip(5), one_by_one(1).skip(2)].into_iter().chain(Form::ALL.map(sheet_w_in));
-            for sheet in sheets.into_iter().chain(others) {
+            let loads = [w_and(5, 2, 2, 7), w_and(5, 1, 2, 7)];
+            for sheet in sheets.into_iter().chain(others).chain(loads) {
                 assert!(kinds(call, &sheet, 100).iter().all(|kind| wanted.contains(kind)));
             }
         }

@@ -5,6 +5,7 @@ use model::reader::read;
 use model::refusal::{Refusal, BAD_LENGTH, NOT_GRANTED, NO_PLAN, STEP_SIGNED, UNKNOWN};
 use model::signing::{has_plan, Signers, Work, MOST_REFUSALS};
 use sheet_tests::forms::{can_refuse, on_sheet, wanted};
+use sheet_tests::loads::{load_levels, without_loads};
 
 /// What is known before a call.
 pub struct Before<'a> {
@@ -17,7 +18,7 @@ pub struct Before<'a> {
     pub refused_before: bool,
 }
 
-const NAMED: [&str; 52] = [
+const NAMED: [&str; 53] = [
     "opened, never opened before",
     "opened, over memory that no call has made",
     "opened again, another sheet, over signings and a count",
@@ -67,6 +68,7 @@ const NAMED: [&str; 52] = [
     "16, permitted, for what was granted before",
     "16, for signers that no call has written",
     "16, behind a skipped step, for what was granted before",
+    "16, permitted, for kind 5 alone",
     "counted, to the stop",
     "not counted, at the stop",
     "not counted, above the stop",
@@ -254,11 +256,15 @@ fn of_refused(before: &Before, job: &Job, step: u32, person: u32) -> Vec<String>
     alone[place.entry] = person as u8 + 1;
     let (may, planned) = (job.people[person].may(place.step), has_plan(job, &alone));
     let bound = before.made && planned;
+    let mut with = before.work.signer;
+    with[place.entry] = person as u8 + 1;
+    let for_load = before.made && load_levels(job).any(|level| has_plan(&without_loads(job, level), &with));
     given(&[
         (!may, "16, not permitted"),
         (may && !planned, "16, permitted, in no plan at all"),
         (bound, "16, permitted, for what was granted before"),
         (bound && place.is_behind_skipped(), "16, behind a skipped step, for what was granted before"),
         (!before.made && planned, "16, for signers that no call has written"),
+        (for_load, "16, permitted, for kind 5 alone"),
     ])
 }

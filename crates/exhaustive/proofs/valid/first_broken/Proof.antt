@@ -13,7 +13,7 @@ use Rattle.workflow.specs.Problem.{met}
 use Rattle.workflow.specs.First.{planOf}
 use Rattle.workflow.specs.Numbered.{kindIn}
 use Rattle.instance.specs.Instance.{instanceOf}
-use Rattle.instance.specs.Counts.{Columns, ForInstances}
+use Rattle.instance.specs.Figures.{Columns, ForInstances}
 use Rattle.exhaustive.proofs.Validity.{said-met}
 use Rattle.exhaustive.proofs.valid.first_broken.Statement.{statement}
 use Rattle.exhaustive.proofs.valid.first_broken.Tie as tie
@@ -39,17 +39,20 @@ columns c = record { few = c .pre .levels; classes = search needs; sized = c .pr
 below : (c : tie.In-loop Inv-loop μ-loop) → c .before .loop .i < 64
 below c = omega (arith, start (c .before) .pre .few, c .loop-test .taken)
 
-array-read-rule-count : tie.Need-array-read-rule-count Inv-loop μ-loop
-array-read-rule-count c = below (c .before .before)
+array-read-rule-figure : tie.Need-array-read-rule-figure Inv-loop μ-loop
+array-read-rule-figure c = below (c .before .before)
 
-mul-rule-count : tie.Need-mul-rule-count Inv-loop μ-loop
-mul-rule-count c = omega (arith, below (c .before .before))
+array-read-rule-figure-2 : tie.Need-array-read-rule-figure-2 Inv-loop μ-loop
+array-read-rule-figure-2 c = below (c .before .before)
 
-array-read-rule-count-2 : tie.Need-array-read-rule-count-2 Inv-loop μ-loop
-array-read-rule-count-2 c = below (c .before .before)
+mul-rule-figure : tie.Need-mul-rule-figure Inv-loop μ-loop
+mul-rule-figure c = omega (arith, below (c .before .before))
 
-rule-count-requires : tie.Need-rule-count-requires Inv-loop μ-loop
-rule-count-requires c κs =
+array-read-rule-figure-3 : tie.Need-array-read-rule-figure-3 Inv-loop μ-loop
+array-read-rule-figure-3 c = below (c .before .before)
+
+rule-figure-requires : tie.Need-rule-figure-requires Inv-loop μ-loop
+rule-figure-requires c κs =
     let t = c .before .before in
     let s = start (t .before) in
     let i = t .before .loop .i in
@@ -84,11 +87,11 @@ said c people steps w =
     let i = t .before .loop .i in
     let few = start (t .before) .pre .scoped i (t .loop-test .taken) in
     said-met (instanceOf people steps (s .rules) (s .t1)) (kindIn (getD (s .t1 .«rule_kind») i 0)) (getD (s .t1 .«rule_level») i 0)
-    (getD (s .t1 .«rule_limit») i 0) (hasBit (getD (s .t1 .«rule_scope») i 0)) (planOf (s .plan .now)) (c .before .size .result) (n .rule-count .result)
+    (getD (s .t1 .«rule_limit») i 0) (hasBit (getD (s .t1 .«rule_scope») i 0)) (planOf (s .plan .now)) (c .before .size .result) (n .rule-figure .result)
     (c .is-met .result)
     (c .before .size .ensures .0 ∙ ones-bits 16 (getD (s .t1 .«rule_scope») i 0) (omega arith)
     ∙ size-same 16 steps (getD (s .t1 .«rule_scope») i 0) (omega arith) (w i (t .loop-test .taken)))
-    (n .rule-count .ensures .1 steps (w i (t .loop-test .taken))) (c .is-met .ensures)
+    (n .rule-figure .ensures .1 steps (w i (t .loop-test .taken))) (c .is-met .ensures)
 
 returns : tie.Need-returns Inv-loop μ-loop
 returns c people steps w =
@@ -114,5 +117,5 @@ returns-2 c people steps w = passed-all _ _ _ (c .before .loop .inv people steps
 pub first-broken-spec : {M : Type 1} → statement M
 first-broken-spec =
     tie.close
-    (tie.spec Inv-loop μ-loop loop-holds array-read-rule-count mul-rule-count array-read-rule-count-2 rule-count-requires mul-size array-read-size size-requires
+    (tie.spec Inv-loop μ-loop loop-holds array-read-rule-figure array-read-rule-figure-2 mul-rule-figure array-read-rule-figure-3 rule-figure-requires mul-size array-read-size size-requires
     array-read-is-met array-read-is-met-2 is-met-requires returns add-i loop-less loop-again returns-2)

@@ -5,7 +5,7 @@ use borrow.Author.Needs.{needs}
 use lib.ListN.{length}
 use Rattle.workflow.specs.First.{planOf}
 use Rattle.instance.specs.Instance.{instanceOf, mayOf}
-use Rattle.instance.proofs.Counted.{scoped}
+use Rattle.instance.proofs.Figured.{scoped}
 use Rattle.exhaustive.proofs.Validity.{denied-not-valid, says-valid}
 use Rattle.exhaustive.proofs.valid.is_valid.Statement.{statement}
 use Rattle.exhaustive.proofs.valid.is_valid.Tie as tie

@@ -1,49 +1,35 @@
--- `narrow::revise::revise` meets its contract, by what the domains settle of the count. Assumes nothing.
-use native.Mathlib.Omega.{arith}
+-- `narrow::revise::revise` meets its contract: by the count, and then by the load. Assumes nothing.
 use borrow.Author.Needs.{needs}
-use Rattle.eligible.specs.Classes.{ForJobs}
-use Rattle.narrow.proofs.Restricting.{changed-small}
-use Rattle.narrow.proofs.Ruling.{SettledRule, settled-rule, revised-lost, revised}
+use Rattle.narrow.proofs.Loading.{revised-then, revised-sized, small-or}
 use Rattle.narrow.proofs.revise.revise.Statement.{statement}
 use Rattle.narrow.proofs.revise.revise.Tie as tie
 
-level-requires : tie.Need-level-requires
-level-requires c κs = search needs
-
-scope-requires : tie.Need-scope-requires
-scope-requires c κs = search needs
-
-fixed-requires : tie.Need-fixed-requires
-fixed-requires c κs = search needs
-
--- what is settled, in every job that can have the rule
-state : (c : tie.After-fixed) → let a = c .before .before .before .before .args in let f = c .fixed .result in
-    ForJobs (a .crowd .now) (a .r) (λ j. SettledRule j (a .r) (a .dom .now) (f .used) (f .count) (f .wide))
-state c =
-    let s = c .before .before .before in
-    settled-rule (s .level .ensures .0) (c .before .before .scope .ensures) (s .before .pre .2) (c .fixed .ensures .2)
-
-hopeless-requires : tie.Need-hopeless-requires
-hopeless-requires c κs = search needs
+by-count-requires : tie.Need-by-count-requires
+by-count-requires c κs = search needs
 
 returns : tie.Need-returns
-returns c =
-    let h = c .before in
-    (λ size rule at. revised-lost (state (h .before .before) size rule at) (h .hopeless .ensures (c .if1 .taken) (size .people) (at .grouped)), omega arith)
+returns c = search needs
 
-allowed-requires : tie.Need-allowed-requires
-allowed-requires c κs = search needs
-
-restrict-requires : tie.Need-restrict-requires
-restrict-requires c κs = search needs
+limits-load-requires : tie.Need-limits-load-requires
+limits-load-requires c κs = search needs
 
 returns-2 : tie.Need-returns-2
-returns-2 c =
-    let a = c .before .before in
-    let f = a .before .before .before .before .before in (
-      λ size rule at. revised (state f size rule at) (c .restrict .ensures) (a .allowed .ensures (size .people) (at .grouped)),
-      changed-small (c .restrict .ensures) (f .fixed .ensures .0),
+returns-2 c = search needs
+
+by-load-requires : tie.Need-by-load-requires
+by-load-requires c κs =
+    let d = c .before .before .before .before in
+    let given = d .before .before .pre in
+    (given .0, given .1, revised-sized (given .1) (d .by-count .ensures .0))
+
+returns-3 : tie.Need-returns-3
+returns-3 c =
+    let n = c .before .before in
+    let e = n .before .before .before .before in
+    let d = e .before in (
+      λ size rule at. revised-then (d .by-count .ensures .0 size rule at) (e .if1 .left) (n .by-load .ensures .0 size rule at),
+      small-or (d .by-count .result .changed) (n .by-load .result .changed) (d .by-count .ensures .1) (n .by-load .ensures .1),
     )
 
 pub revise-spec : {M : Type 1} → statement M
-revise-spec = tie.close (tie.spec level-requires scope-requires fixed-requires hopeless-requires returns allowed-requires restrict-requires returns-2)
+revise-spec = tie.close (tie.spec by-count-requires returns limits-load-requires returns-2 by-load-requires returns-3)

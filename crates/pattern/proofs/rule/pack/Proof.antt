@@ -31,8 +31,19 @@ mul-result-3 c = search needs
 add-result-3 : tie.Need-add-result-3
 add-result-3 c = search needs
 
+cast-result-4 : tie.Need-cast-result-4
+cast-result-4 c = search needs
+
+mul-result-4 : tie.Need-mul-result-4
+mul-result-4 c = search needs
+
+add-result-4 : tie.Need-add-result-4
+add-result-4 c = search needs
+
 returns : tie.Need-returns
-returns c = let a = c .args in packed (a .level) (a .least) (a .most) (a .scope) (c .pre .0) (c .pre .1) (c .pre .2) (c .fits .scope .fits)
+returns c =
+    let a = c .args in
+    packed (a .level) (a .least) (a .most) (a .load) (a .scope) (c .pre .0) (c .pre .1) (c .pre .2) (c .pre .3) (c .fits .scope .fits)
 
 pub pack-spec : {M : Type 1} → statement M
 pack-spec =
@@ -47,4 +58,7 @@ pack-spec =
     cast-result-3
     mul-result-3
     add-result-3
+    cast-result-4
+    mul-result-4
+    add-result-4
     returns)

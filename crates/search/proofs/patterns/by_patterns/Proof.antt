@@ -1,4 +1,5 @@
 -- `search::patterns::by_patterns` meets its contract. Assumes nothing.
+use mathlib.Core.Bool.{false}
 use mathlib.Core.Path.{refl, sym}
 use borrow.Author.Needs.{needs}
 use Rattle.workflow.specs.Same.{SamePlans}
@@ -12,10 +13,14 @@ use Rattle.pattern.proofs.Classes.{numbered-classed, numbered-same, classed-tab
 use Rattle.pattern.proofs.Nested.{nested-small}
 use Rattle.realize.specs.Parts.{Offers}
 use Rattle.realize.proofs.Reach.{reachable-offers}
+use Rattle.search.specs.Existence.{Existence}
 use Rattle.search.proofs.Ends.{blank, all-below, finished-sized, existence-unstaffed, existence-ruled-out, start-patterned, reached-start, existence-lost, existence-won, existence-moves}
-use Rattle.search.proofs.LowerLimits.{existence-short}
+use Rattle.search.proofs.GreatestLoads.{loads-unmet}
+use Rattle.search.proofs.LowerLimits.{limits-unmet}
 use Rattle.search.proofs.Node.{rules-among}
 use Rattle.search.proofs.Opposing.{existence-opposed}
+use Rattle.search.proofs.PairedLoads.{existence-overloaded}
+use Rattle.search.proofs.Unmet.{Unmet, existence-short}
 use Rattle.search.proofs.patterns.by_patterns.Statement.{statement}
 use Rattle.search.proofs.patterns.by_patterns.Tie as tie
 
@@ -36,8 +41,17 @@ ruling c = c .before .before .before .before .before .before
 abbrev nesting : tie.After-reaches → tie.After-nests
 nesting c = c .before .before .before
 
+abbrev offering : tie.Else4 → tie.After-reaches
+offering c = c .before .before .before .before
+
+abbrev loading : tie.Else5 → tie.After-reaches
+loading c = offering (c .before .before .before .before)
+
+abbrev passing : tie.After-of2 → tie.After-reaches
+passing c = loading (c .before .before .before .before .before .before .before)
+
 abbrev reaching : tie.After-find → tie.After-reaches
-reaching c = c .before .before .before .before .before .before .before .before .before .before .before .before .before .before
+reaching c = passing (c .before .before .before .before .before .before .before .before)
 
 abbrev begun : tie.After-nests → tie.Start
 begun c = start (opposing (staffing (ruling c)))
@@ -125,24 +139,58 @@ limits-reached-requires c κs =
     let r = c .before .before in
     (begun (nesting r) .pre .0 .tabled .given .ruled, r .reaches .ensures .sized)
 
+-- a rule that no classes with somebody for the steps meet
+short : (c : tie.After-reaches) → let s = begun (nesting c) in let t = s .args .tables in
+    Unmet (t .size .steps) (t .size .rules) (t .rule) (c .reaches .result)
+    → Existence (tabledJob t) (mayIn (s .args .may .now)) (s .args .plan .now) (s .args .plan .now) false
+short c u =
+    let n = nesting c in
+    let s = begun n in
+    existence-moves (same n) (mayIn (s .args .may .now))
+    (existence-short (given n .ruled) (nested-small (given n)) (s .args .may .now) (offers c) (s .args .plan .now) (s .pre .3) u)
+
 returns-4 : tie.Need-returns-4
 returns-4 c =
     let r = c .before .before .before .before in
+    let l = c .before .limits-reached in
+    (short r (limits-unmet (l .result) (l .ensures) (c .if4 .taken)), begun (nesting r) .pre .2)
+
+loads-fit-requires : tie.Need-loads-fit-requires
+loads-fit-requires c κs =
+    let r = offering (c .before .before) in
+    (begun (nesting r) .pre .0 .tabled .given .ruled, r .reaches .ensures .sized)
+
+returns-5 : tie.Need-returns-5
+returns-5 c =
+    let r = offering (c .before .before .before .before) in
+    let l = c .before .loads-fit in
+    (short r (loads-unmet (l .result) (l .ensures) (c .if5 .taken)), begun (nesting r) .pre .2)
+
+pairs-fit-requires : tie.Need-pairs-fit-requires
+pairs-fit-requires c κs =
+    let r = loading (c .before .before .before) in
+    let p = begun (nesting r) .pre .0 in
+    (p .tabled .given .ruled, p .tabled .given .few-people, p .numbers .sized, r .reaches .ensures .sized)
+
+returns-6 : tie.Need-returns-6
+returns-6 c =
+    let k = c .before in
+    let r = loading (k .before .before .before .before) in
     let n = nesting r in
-    let s = begun n in
-    let l = c .before .limits-reached in (
+    let s = begun n in (
       existence-moves (same n) (mayIn (s .args .may .now))
-          (existence-short (given n .ruled) (nested-small (given n)) (s .args .may .now) (offers r) (s .args .plan .now) (s .pre .3) (l .result) (l .ensures) (c .if4 .taken)),
+          (existence-overloaded (given n .ruled) (nested-small (given n)) (s .args .may .now) (offers r) (s .args .tables .class) (nested-number (classed s) (n .nests .ensures)) (s .args .plan .now) (s .pre .3)
+          (k .pairs-fit .result) (k .pairs-fit .ensures) (c .if6 .taken)),
       s .pre .2,
     )
 
 named-requires : tie.Need-named-requires
-named-requires c κs = let t = begun (nesting (c .before .before .before .before .before .before)) .pre .0 .tabled in (t .given .ruled .few-steps, t .naming .sized)
+named-requires c κs = let t = begun (nesting (passing c)) .pre .0 .tabled in (t .given .ruled .few-steps, t .naming .sized)
 
 find-requires : tie.Need-find-requires
 find-requires c κs =
     let n = c .before .before .before .before .before .before in
-    let r = n .before .before .before .before .before .before .before in
+    let r = passing (n .before) in
     let k = nesting r in
     let e = ruling k in
     let m = e .before .before .before .below in
@@ -156,13 +204,13 @@ find-requires c κs =
       offers r,
     )
 
-returns-5 : tie.Need-returns-5
-returns-5 c =
+returns-7 : tie.Need-returns-7
+returns-7 c =
     let f = c .before in
     let k = nesting (reaching f) in
     let s = begun k in (
       existence-moves (same k) (mayIn (s .args .may .now))
-          (existence-lost (s .pre .0 .tabled .given .ruled) (s .args .may .now) (s .args .plan .now) blank (f .find .result) (s .pre .3) (f .find .ensures .0) (c .if5 .taken)),
+          (existence-lost (s .pre .0 .tabled .given .ruled) (s .args .may .now) (s .args .plan .now) blank (f .find .result) (s .pre .3) (f .find .ensures .0) (c .if7 .taken)),
       f .find .ensures .1,
     )
 
@@ -178,13 +226,13 @@ realize-requires c κs =
     let r = reaching (e .before) in
     let s = begun (nesting r) in
     let o = e .before .find in (
-      finished-sized (given (nesting r)) (s .args .may .now) (o .result) (s .pre .1) (o .ensures .0) (e .if5 .left) (r .reaches .ensures .sized),
+      finished-sized (given (nesting r)) (s .args .may .now) (o .result) (s .pre .1) (o .ensures .0) (e .if7 .left) (r .reaches .ensures .sized),
       s .pre .0 .tabled .given .few-people,
       g .give-first .ensures .sized,
     )
 
-returns-6 : tie.Need-returns-6
-returns-6 c =
+returns-8 : tie.Need-returns-8
+returns-8 c =
     let g = c .before .before .before .before .before in
     let e = g .before .before in
     let r = reaching (e .before) in
@@ -194,7 +242,7 @@ returns-6 c =
     let o = e .before .find in (
       existence-moves (same k) (mayIn (s .args .may .now))
           (existence-won (given k) (s .args .may .now) (offers r) (s .args .plan .now) (u .before .staffed .result) (o .result) (u .before .staffed .ensures) (u .if2 .left)
-          (o .ensures .0) (e .if5 .left) (g .give-first .ensures) (c .realize .ensures)),
+          (o .ensures .0) (e .if7 .left) (g .give-first .ensures) (c .realize .ensures)),
       o .ensures .1,
     )
 
@@ -213,9 +261,13 @@ by-patterns-spec =
     reaches-requires
     limits-reached-requires
     returns-4
+    loads-fit-requires
+    returns-5
+    pairs-fit-requires
+    returns-6
     named-requires
     find-requires
-    returns-5
+    returns-7
     give-first-requires
     realize-requires
-    returns-6)
+    returns-8)

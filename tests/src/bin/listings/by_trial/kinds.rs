@@ -1,7 +1,7 @@
 //! What a listing shows. A run in which one of these was never met has failed.
 
 use crate::kinds::{lines, of_plan, refusal, PLAN, RULES, SKIPPED};
-use model::job::{Form, Job, AT_LEAST, AT_MOST, MOST_RULES, SAME};
+use model::job::{Form, Job, LIMITED, MAX_LOAD, MOST_RULES, SAME};
 use model::plans::plans;
 use model::reader::read;
 use model::refusal::{BAD_LENGTH, LOOSE_CARD};
@@ -60,9 +60,9 @@ pub fn all(form: Form) -> Vec<String> {
     kinds.extend([NONE_VALID, CARRY, LONG].map(String::from));
     kinds.extend(SKIPPED.map(String::from));
     kinds.extend([DENIED_BEHIND, NOBODY, NONE_VALID_SKIPPED].map(String::from));
-    kinds.extend([AT_MOST, AT_LEAST].map(breaks_left));
+    kinds.extend(LIMITED.map(breaks_left));
     let levels = 1..=form.person_level();
-    kinds.extend((SAME..=AT_LEAST).flat_map(|kind| levels.clone().map(move |level| breaks(kind, level))));
+    kinds.extend((SAME..=MAX_LOAD).flat_map(|kind| levels.clone().map(move |level| breaks(kind, level))));
     kinds.extend([PLAN, NONE_VALID, LEFT].into_iter().flat_map(|end| [SHOWN, NOT_SHOWN].map(|plans| just(plans, end))));
     kinds.extend((BAD_LENGTH..=LOOSE_CARD).filter(|&number| can_refuse(form, number)).map(refusal));
     kinds
@@ -156,7 +156,7 @@ mod tests {
     use model::builder::{
         last_alone, lay, one_by_one, plain, plain_job, rule, sheet_w, skipped_w, skipping, w_and, Draft,
     };
-    use model::job::{BY_PERSON, BY_SHOP, DIFFERENT};
+    use model::job::{AT_MOST, BY_PERSON, BY_SHOP, DIFFERENT};
     use model::trial::listing;
 
     fn listed(sheet: &Draft) -> String {
@@ -181,6 +181,7 @@ mod tests {
         none.extend([(1, 1), (2, 3), (3, 3)].map(|(kind, level)| breaks(kind, level)));
         none.extend([DENIED_LATER, DENIED_FIRST, "no plan"].map(String::from));
         assert_eq!(kinds(w_and(3, 3, 1, 7)), none);
+        assert_eq!(kinds(w_and(5, 2, 2, 7)), [BREAKS_LATER, &breaks(2, 3), &breaks(5, 2), VALID_LATER, "a plan"]);
         assert_eq!(kinds(one_by_one(1)), [VALID_FIRST, "a plan", "a plan, no RULE line"]);
         assert_eq!(kinds(plain(2, 2, 64)), [VALID_FIRST, "a plan", "a plan, 64 RULE lines"]);
         assert_eq!(kinds(by_the_last_rule()), [BREAKS_LAST, &breaks(2, 1), "no plan"]);
@@ -206,6 +207,8 @@ mod tests {
         none.push(breaks_left(3));
         none.extend([DENIED_BEHIND, DENIED_FIRST, "no plan", NONE_VALID_SKIPPED].map(String::from));
         assert_eq!(kinds(w_and(3, 3, 1, 7).skip(5)), none);
+        let load = kinds(w_and(5, 2, 1, 7).skip(5));
+        assert!([breaks(5, 2), breaks_left(5)].iter().all(|kind| load.contains(kind)), "{load:?}");
         assert_eq!(kinds(skipped_w()), [NOBODY, "a plan", "a plan, all steps skipped"]);
         assert_eq!(kinds(one_by_one(0).skip(2))[4], "a plan, all steps skipped, one person");
         let left = lay(&skipping(plain_job(10, 5, 1), [0, 3]));
@@ -233,7 +236,7 @@ mod tests {
         let wanted = all(Form::First);
         let sheets =
             [sheet_w(), w_and(3, 3, 1, 7), one_by_one(1), by_the_last_rule(), plain(10, 3, 0), plain(4, 5, 64)];
-        let skipped = [sheet_w().skip(5), one_by_one(1).skip(2), w_and(3, 3, 1, 7).skip(5)];
+        let skipped = [sheet_w().skip(5), one_by_one(1).skip(2), w_and(3, 3, 1, 7).skip(5), w_and(5, 2, 1, 7).skip(5)];
         let alone = [lay(&last_alone(2, 3)), lay(&last_alone(17, 4)), sheet_w().cut(24)];
         for sheet in sheets.into_iter().chain(alone).chain(skipped) {
             let shown = kinds(sheet);

@@ -2,7 +2,7 @@
 
 use crate::kinds::{lines, of_plan, refusal, PLAN, RULES, SKIPPED};
 use model::card::{CARD, STEP};
-use model::job::{Form, Job, Rule, AT_LEAST, AT_MOST, DIFFERENT, SAME};
+use model::job::{Form, Job, Rule, AT_LEAST, AT_MOST, DIFFERENT, MAX_LOAD, SAME};
 use model::listing::CAP;
 use model::reader::read;
 use model::refusal::{BAD_FIELD, BAD_LENGTH, NO_PLAN};
@@ -13,12 +13,18 @@ use std::cmp::Ordering::{self, Equal, Greater, Less};
 /// A right listing, however it was judged, that a program without its last RULE line cannot print.
 const RULE_LAST: &str = "a RULE line last";
 
-/// Where the count of a rule that is met may stand to its limit, which is 0 for kinds 1 and 2.
-const COUNTS: [(u8, &[Ordering]); 4] =
-    [(SAME, &[Greater]), (DIFFERENT, &[Greater]), (AT_MOST, &[Less, Equal]), (AT_LEAST, &[Equal, Greater])];
+/// Where the figure of a rule that is met may stand to its limit, which is 0 for kinds 1 and 2.
+const FIGURES: [(u8, &[Ordering]); 5] = [
+    (SAME, &[Greater]),
+    (DIFFERENT, &[Greater]),
+    (AT_MOST, &[Less, Equal]),
+    (AT_LEAST, &[Equal, Greater]),
+    (MAX_LOAD, &[Less, Equal]),
+];
 
-/// The same of a rule that has lost steps and is left with two or more: the limit of the last kind may have become smaller.
-const COUNTS_LEFT: [(u8, &[Ordering]); 2] = [(AT_MOST, &[Less, Equal]), (AT_LEAST, &[Less, Equal, Greater])];
+/// The same of a rule that has lost steps and is left with two or more: an at-least limit may have become smaller.
+const FIGURES_LEFT: [(u8, &[Ordering]); 3] =
+    [(AT_MOST, &[Less, Equal]), (AT_LEAST, &[Less, Equal, Greater]), (MAX_LOAD, &[Less, Equal])];
 
 const NO_PLAN_SKIPPED: &str = "refusal 13, some steps skipped";
 const BAD_MARK: &str = "refusal  8, a step that is neither skipped nor not";
@@ -31,21 +37,21 @@ fn spare(count: usize) -> String {
     format!("SPARE {count} OF {CAP}")
 }
 
-fn rule(kind: u8, level: u8, count: Ordering) -> String {
-    let place = match count {
+fn rule(kind: u8, level: u8, figure: Ordering) -> String {
+    let place = match figure {
         Less => "below",
         Equal => "at",
         Greater => "above",
     };
-    format!("RULE {kind} {level}, the count {place} the limit")
+    format!("RULE {kind} {level}, the figure {place} the limit")
 }
 
 /// Of a rule that has lost steps.
-fn rule_left(kind: u8, level: u8, left: usize, count: Ordering) -> String {
+fn rule_left(kind: u8, level: u8, left: usize, figure: Ordering) -> String {
     match left {
         0 => format!("RULE {kind} {level}, left with no step"),
         1 => format!("RULE {kind} {level}, left with one step"),
-        _ => format!("{}, left with fewer steps", rule(kind, level, count)),
+        _ => format!("{}, left with fewer steps", rule(kind, level, figure)),
     }
 }
 
@@ -58,12 +64,12 @@ pub fn all(form: Form) -> Vec<String> {
     kinds.extend((BAD_LENGTH..=NO_PLAN).filter(|&number| can_refuse(form, number)).map(refusal));
     kinds.extend((0..=CAP).map(spare));
     for level in 1..=form.person_level() {
-        for (kind, counts) in COUNTS {
-            kinds.extend(counts.iter().map(|&count| rule(kind, level, count)));
+        for (kind, figures) in FIGURES {
+            kinds.extend(figures.iter().map(|&figure| rule(kind, level, figure)));
             kinds.extend([0, 1].map(|left| rule_left(kind, level, left, Equal)));
         }
-        for (kind, counts) in COUNTS_LEFT {
-            kinds.extend(counts.iter().map(|&count| rule_left(kind, level, 2, count)));
+        for (kind, figures) in FIGURES_LEFT {
+            kinds.extend(figures.iter().map(|&figure| rule_left(kind, level, 2, figure)));
         }
     }
     kinds
@@ -76,10 +82,10 @@ fn figures(line: &str) -> Vec<u32> {
 
 fn of_rule(job: &Job, held: &Rule, line: &str) -> String {
     let figures = figures(line);
-    let (kind, level, count) = (figures[0] as u8, figures[1] as u8, figures[3].cmp(&figures[2]));
+    let (kind, level, figure) = (figures[0] as u8, figures[1] as u8, figures[3].cmp(&figures[2]));
     match job.left(held.scope).count() {
-        left if left == held.scope.count_ones() as usize => rule(kind, level, count),
-        left => rule_left(kind, level, left, count),
+        left if left == held.scope.count_ones() as usize => rule(kind, level, figure),
+        left => rule_left(kind, level, left, figure),
     }
 }
 
@@ -138,13 +144,16 @@ mod tests {
         let w = [
             "a plan",
             "SPARE 1 OF 2",
-            "RULE 1 2, the count above the limit",
-            "RULE 1 1, the count above the limit",
-            "RULE 2 3, the count above the limit",
+            "RULE 1 2, the figure above the limit",
+            "RULE 1 1, the figure above the limit",
+            "RULE 2 3, the figure above the limit",
         ];
         assert_eq!(kinds(sheet_w()), w);
-        assert_eq!(kinds(w_and(4, 3, 3, 7)).last().unwrap(), "RULE 4 3, the count at the limit");
-        assert_eq!(kinds(w_and(3, 1, 2, 3)).last().unwrap(), "RULE 3 1, the count below the limit");
+        assert_eq!(kinds(w_and(4, 3, 3, 7)).last().unwrap(), "RULE 4 3, the figure at the limit");
+        assert_eq!(kinds(w_and(3, 1, 2, 3)).last().unwrap(), "RULE 3 1, the figure below the limit");
+        assert_eq!(kinds(w_and(5, 2, 2, 7)).last().unwrap(), "RULE 5 2, the figure at the limit");
+        assert_eq!(kinds(w_and(5, 3, 3, 7)).last().unwrap(), "RULE 5 3, the figure below the limit");
+        assert_eq!(kinds(w_and(5, 1, 2, 7)), ["refusal 13"]);
         assert_eq!(kinds(one_by_one(1)), ["a plan", "a plan, no RULE line", "SPARE 0 OF 2"]);
         assert_eq!(kinds(plain(1, 2, 64))[..3], ["a plan", "a plan, 64 RULE lines", "SPARE 0 OF 2"]);
         assert_eq!(kinds(plain(1, 2, 65)), ["refusal  9"]);
@@ -158,11 +167,13 @@ mod tests {
             "a plan, some steps skipped",
             "SPARE 1 OF 2",
             "RULE 1 2, left with one step",
-            "RULE 1 1, the count above the limit",
-            "RULE 2 3, the count above the limit",
-            "RULE 4 3, the count below the limit, left with fewer steps",
+            "RULE 1 1, the figure above the limit",
+            "RULE 2 3, the figure above the limit",
+            "RULE 4 3, the figure below the limit, left with fewer steps",
         ];
         assert_eq!(kinds(w_and(4, 3, 3, 7).skip(5)), some);
+        let load = kinds(w_and(5, 1, 2, 7).skip(5));
+        assert_eq!(load.last().unwrap(), "RULE 5 1, the figure at the limit, left with fewer steps");
         let all = kinds(w_and(4, 3, 3, 7).skip(5).skip(6).skip(7));
         assert_eq!(all[..3], ["a plan", "a plan, all steps skipped", "SPARE 2 OF 2"]);
         assert_eq!(all[3..].last().unwrap(), "RULE 4 3, left with no step");
@@ -192,7 +203,7 @@ mod tests {
         for (form, levels) in Form::ALL.into_iter().zip([3, 2, 3, 4]) {
             let wanted: BTreeSet<String> = all(form).into_iter().collect();
             let pairs: BTreeSet<&str> = wanted.iter().filter_map(|kind| kind.strip_prefix("RULE ")?.get(..3)).collect();
-            let expected = (1..=4).flat_map(|kind| (1..=levels).map(move |level| format!("{kind} {level}")));
+            let expected = (1..=5).flat_map(|kind| (1..=levels).map(move |level| format!("{kind} {level}")));
             assert_eq!(pairs, expected.collect::<Vec<_>>().iter().map(String::as_str).collect(), "{form}");
         }
     }
@@ -202,7 +213,8 @@ mod tests {
         let wanted = all(Form::First);
         let skipped = [w_and(4, 3, 3, 7).skip(5), one_by_one(1).skip(2), sheet_w().byte(6, 1, 2)];
         let sheets = [sheet_w(), w_and(4, 3, 3, 7), w_and(3, 1, 2, 3), one_by_one(0), one_by_one(1), plain(1, 2, 64)];
-        for sheet in sheets.into_iter().chain(skipped) {
+        let loads = [w_and(5, 2, 2, 7), w_and(5, 3, 3, 7), w_and(5, 1, 2, 7).skip(5), w_and(5, 1, 3, 7).skip(5)];
+        for sheet in sheets.into_iter().chain(skipped).chain(loads) {
             let shown = kinds(sheet);
             assert!(shown.iter().filter(|kind| *kind != PLAN).all(|kind| wanted.contains(kind)), "{shown:?}");
         }
