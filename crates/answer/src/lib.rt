@@ -1,4 +1,6 @@
 // What the calls return and write: the number, the bytes of numbers, and a crew.
+#![tactic(auto)]
+
 ghost use Rattle.std.specs.Prelude.{◌≡◌, ◌<◌};
 ghost use Rattle.answer.specs.Number.{refusal_number, number_of, Returnable};
 

@@ -1,6 +1,8 @@
 // A search for a plan over people, step after step, with domains narrowed by the rules: in order for the
 // first plan, or else with the steps of few people first for any. It gives up when its effort is spent: most
 // sheets it answers at once, and for the others there is the pattern search.
+#![tactic(auto)]
+
 mod ends;
 mod order;
 
@@ -25,7 +27,7 @@ pub enum Tried {
 }
 
 // A step, the person it is given to, and the steps that are left then.
-#[derive(Drop)]
+#[derive(Clone, Copy)]
 struct Choice {
     step: usize,
     person: usize,

@@ -1,4 +1,6 @@
 // Words of a byte slice, low byte first, and words as sets.
+#![tactic(auto)]
+
 pub mod columns;
 pub mod set;
 pub mod sizes;

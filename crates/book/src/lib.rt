@@ -1,4 +1,5 @@
 // The minutes book: version 2 sheets laid end to end become the lines of their people, the sums and the number of refused sheets.
+#![tactic(auto)]
 ghost use mathlib.Core.List.{List, []};
 ghost use mathlib.Core.Path.{◌≡◌};
 ghost use Prim.Native.Nat.{ℕ, ◌<◌, ◌≤◌, min};

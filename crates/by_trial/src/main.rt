@@ -1,5 +1,7 @@
 // The program of the engine that tries every plan: one sheet from standard input; how many plans were tried and, of a sheet with few
 // plans, each of them; then the crew and the figure of each rule for that crew, to standard output.
+#![tactic(auto)]
+
 ghost use Rattle.sheet.specs.Readable.{ReadableJob};
 ghost use Rattle.exhaustive.specs.Trial.{PlanFor};
 

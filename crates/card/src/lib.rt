@@ -1,4 +1,6 @@
 // One card of a sheet: its bytes and what its fields may be.
+#![tactic(auto)]
+
 ghost use Rattle.std.specs.Prelude.{◌≡◌, ◌+◌, ◌*◌, ◌<◌, length};
 ghost use Rattle.card.specs.Layout.{card_byte, card_word, card_long};
 

@@ -1,4 +1,6 @@
 // The walk along a chain of cards: each card marked and listed, or one refusal with the card concerned.
+#![tactic(auto)]
+
 ghost use Rattle.std.specs.Prelude.{not, [], ◌≡◌, ◌+◌, ◌*◌, ◌<◌, ◌≤◌, eqb, length};
 ghost use Rattle.card.specs.Layout.{kind_of};
 ghost use Rattle.card.specs.Fields.{fields_ok};

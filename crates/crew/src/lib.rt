@@ -1,4 +1,6 @@
 // The crew call: a sheet and a buffer become a number and the first valid plan's bytes.
+#![tactic(auto)]
+
 ghost use Rattle.std.specs.Prelude.{◌≡◌};
 ghost use Rattle.sheet.specs.Readable.{ReadableJob};
 ghost use Rattle.workflow.specs.First.{first_plan, found_as};

@@ -1,5 +1,7 @@
 // The figures of a rule, for a pattern and for a plan; and the eligibility of a pattern: whether each rule can
 // still be met, by its count and its largest load over the placed steps and the steps left open.
+#![tactic(auto)]
+
 pub mod classes;
 pub mod groups;
 pub mod plan;

@@ -1,5 +1,7 @@
 // The engine that tries every plan: the first plan, is it valid, the next plan. Its working can be followed on paper; its time grows as
 // the number of people to the power of the number of steps.
+#![tactic(auto)]
+
 ghost use Rattle.std.specs.Prelude.{◌≡◌, ◌+◌};
 ghost use Rattle.sheet.specs.Readable.{ReadableJob};
 ghost use Rattle.instance.specs.Instance.{instance_of, may_of};

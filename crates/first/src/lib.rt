@@ -1,5 +1,7 @@
 // The first plan: a plan is taken, and for each step in turn the first person is looked for who does it in
 // a plan, with the steps before fixed.
+#![tactic(auto)]
+
 ghost use Rattle.std.specs.Prelude.{◌≡◌, ◌+◌, ◌<◌, length};
 ghost use Rattle.workflow.specs.First.{first_plan, found_as};
 ghost use Rattle.pattern.specs.Tables.{may_in, plan_in};

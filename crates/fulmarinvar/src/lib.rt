@@ -1,5 +1,7 @@
 // The C interface: three calls over the sheet and the buffer that the caller lends, and three over a job in the caller's memory.
 // specs/Promise.antt states all that is promised.
+#![tactic(auto)]
+
 ghost use Rattle.fulmarinvar.specs.Promise.{CrewPromise, SparePromise, OpenPromise, SignPromise, RefusalsPromise};
 
 use crew::crew;

@@ -1,4 +1,5 @@
 // The people of the minutes book and the sums of their minutes.
+#![tactic(auto)]
 ghost use mathlib.Core.List.{List, [], ◌∷◌, ◌++◌};
 ghost use mathlib.Core.Path.{◌≡◌};
 ghost use Prim.Native.Nat.{◌+◌, ◌<◌, ◌≤◌};

@@ -1,4 +1,6 @@
 // A job's arrays without the levels that no rule names.
+#![tactic(auto)]
+
 ghost use Rattle.std.specs.Prelude.{◌≡◌, ◌≤◌, length};
 ghost use Rattle.bits.specs.Sizes.{most_levels, level_entries, class_entries};
 ghost use Rattle.pattern.specs.Given.{Ruled, Classed};

@@ -1,4 +1,6 @@
 // Lines of the programs' listings, to standard output.
+#![tactic(auto)]
+
 ghost use Rattle.std.specs.Prelude.{◌≡◌, ◌≤◌, length};
 ghost use Rattle.instance.specs.Figures.{Staffed};
 

@@ -73,6 +73,11 @@ pub record Turn (edges at₀ at : List ℕ) (free₀ free was now now' g class h
   pub gone : Removed now class now'
   pub holder : Holder at class h
 
+pub turn_of : {edges at₀ at : List ℕ} {free₀ free was now now' g class h : ℕ} → Searching edges at₀ at free₀ free was now g → now < 2 ^ 64
+    → (class < 64) × Lowest (bit_and (mask edges g) now) class → Removed now class now' → Holder at class h
+    → Turn edges at₀ at free₀ free was now now' g class h
+turn_of s f l r w = record { search = s; fits = f; low = l; gone = r; holder = w }
+
 module _ {edges at₀ at : List ℕ} {free₀ free was now now' g class h : ℕ} (t : Turn edges at₀ at free₀ free was now now' g class h) where
   suit : suits edges g class ≡ true
   suit = suits_of edges g class t.low.0 (and-bit_left (mask edges g) now class t.low.1.has)

@@ -1,5 +1,7 @@
 // Bipartite matching by augmenting paths: groups, numbered below 12, are given classes, numbered
 // below 64, along edges and no class twice, or it is known that this cannot be done.
+#![tactic(auto)]
+
 ghost use Rattle.std.specs.Prelude.{◌≡◌, length};
 ghost use Rattle.matching.specs.Assignment.{Covers, in_mask, suits, class_at};
 ghost use Rattle.matching.specs.State.{Holder, Unserved, Crowded, Placement};

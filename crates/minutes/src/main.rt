@@ -1,5 +1,6 @@
 // The minutes program: version 2 sheets laid end to end from standard input; a line for each person, the sums of all and the number of refused sheets to
 // standard output.
+#![tactic(auto)]
 ghost use mathlib.Core.Path.{◌≡◌};
 ghost use Prim.Native.Nat.{◌≤◌};
 ghost use lib.ListN.{length};

@@ -1,4 +1,6 @@
 // Domains, the people who may still do each step, narrowed by the rules.
+#![tactic(auto)]
+
 mod apart;
 pub mod fixed;
 mod load;

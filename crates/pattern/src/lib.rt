@@ -1,9 +1,11 @@
 // Patterns, eligibility and realizability, which are stated in specs/, and a job as the search's arrays hold it.
+#![tactic(auto)]
+
 pub mod rule;
 pub mod table;
 
 // How many steps, people, levels and rules a job has.
-#[derive(Drop)]
+#[derive(Clone, Copy)]
 pub struct Size {
     pub steps: usize,
     pub people: usize,

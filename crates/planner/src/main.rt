@@ -1,5 +1,7 @@
 // The planning program: one sheet from standard input; its crew, its spare count with cap 2, and the figure of each rule for that
 // crew to standard output.
+#![tactic(auto)]
+
 ghost use Rattle.std.specs.Prelude.{◌≡◌, ◌+◌, ◌<◌, ◌≤◌, length};
 ghost use Rattle.bits.specs.Word.{long_at};
 

@@ -1,6 +1,8 @@
 // Whether a pattern is realizable, as section 3.3 of document 004 has it, and a plan that realizes it.
 // The tables are those of the search: `may` has a mask of people for each step, `label` has 12 entries a
 // level, `nest` has what lies inside each class and `reach` the classes with somebody for each step.
+#![tactic(auto)]
+
 mod decision;
 pub mod parts;
 mod plan;

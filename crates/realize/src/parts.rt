@@ -11,7 +11,7 @@ use bits::small;
 
 // The steps are to go to the classes of level `q` + 1 that are inside, or after the last level to the people, with
 // the labels of the levels below `q`.
-#[derive(Drop)]
+#[derive(Clone, Copy)]
 pub struct Task {
     pub levels: usize,
     pub q: usize,

@@ -3,6 +3,8 @@
 // lower limit at a finer one. In the other direction a limit is changed to what so many classes of the
 // one level have at the other. A limit on the load holds at every finer level: a class there lies in one of
 // the rule's own level, and holds no more steps. At a coarser level nothing is said of the load.
+#![tactic(auto)]
+
 ghost use Rattle.std.specs.Prelude.{◌≤◌, ◌<◌};
 ghost use Rattle.pattern.specs.Given.{Classed};
 ghost use Rattle.pattern.specs.Rule.{level_in, least_in, most_in, scope_in, Packed};

@@ -1,4 +1,6 @@
 // Reading a sheet for its plans: the job that it describes without the steps that are skipped. Neither engine ever sees a skipped step.
+#![tactic(auto)]
+
 ghost use Rattle.std.specs.Prelude.{map, ◌≡◌, ◌≤◌, eqb, length, get_or, take};
 ghost use Rattle.sheet.specs.Answer.{table};
 ghost use Rattle.remaining.specs.Arrays.{Keeps};

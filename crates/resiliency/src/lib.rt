@@ -1,4 +1,6 @@
 // The spare count of a job: how many absences it stands, whoever is away.
+#![tactic(auto)]
+
 pub mod call;
 mod count;
 mod job;

@@ -13,7 +13,7 @@ use bits::small::{with, without};
 use pattern::Size;
 
 // The steps placed, and those that a rule names and that are still to be placed.
-#[derive(Drop)]
+#[derive(Clone, Copy)]
 pub struct Front {
     pub placed: u16,
     pub rest: u16,

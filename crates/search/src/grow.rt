@@ -16,7 +16,7 @@ use realize::realizable;
 const LAST_STEP: usize = MOST_STEPS - 1;
 
 // A step, a way to place it, and the steps placed before and with it.
-#[derive(Drop)]
+#[derive(Clone, Copy)]
 pub struct Placing {
     pub placed: u16,
     pub next: u16,

@@ -1,5 +1,7 @@
 // Whether a job has a valid plan. `exists` has the order of the attempts; `refute` looks at each level by
 // itself, and `patterns` searches through the groupings of all levels.
+#![tactic(auto)]
+
 mod choose;
 pub mod exists;
 mod find;

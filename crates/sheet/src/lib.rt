@@ -1,4 +1,6 @@
 // The card reader: any bytes at all become a job or one numbered refusal with the card concerned.
+#![tactic(auto)]
+
 ghost use Rattle.std.specs.Prelude.{◌≡◌};
 ghost use Rattle.sheet.specs.Answer.{sheet_of};
 ghost use Rattle.sheet.specs.Read.{length_ok};

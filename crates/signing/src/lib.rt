@@ -1,4 +1,6 @@
 // Signing as the work goes, by value: the job under work, its opening with a sheet, and the signing of a step by a person.
+#![tactic(auto)]
+
 use bits::sizes::{MOST_BYTES, MOST_STEPS};
 
 mod bound;

@@ -1,5 +1,7 @@
 // A job as the search takes it: masks of people for each step, classes numbered by first use, and rules as
 // numbers.
+#![tactic(auto)]
+
 ghost use Rattle.std.specs.Prelude.{not, ◌≡◌, ℕ, ◌+◌, ◌^◌, ◌<◌, ◌≤◌, min, eqb, length, get_or};
 ghost use Rattle.bits.specs.Sizes.{most_levels, class_words, class_entries};
 ghost use Rattle.bits.specs.Slots.{FirstOfSlot};

@@ -1,5 +1,7 @@
 // Reads job sheets from standard input, and writes the reader's answer to each, one to a line.
 // A record is two bytes with the sheet's length, low byte first, one with the name's length, the name, the sheet.
+#![tactic(auto)]
+
 ghost use Rattle.std.specs.Prelude.{◌<◌, ◌≤◌, length};
 
 use libc::{STDIN_FILENO, STDOUT_FILENO};

@@ -1,4 +1,5 @@
 // What a sheet adds to the minutes book: the people of its crew, step by step, and the minutes of these steps.
+#![tactic(auto)]
 ghost use mathlib.Core.Bool.{false};
 ghost use mathlib.Core.List.{List};
 ghost use mathlib.Core.Path.{◌≡◌};

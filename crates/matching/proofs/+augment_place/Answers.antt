@@ -1,0 +1,43 @@
+-- The proof of the cycle of calls {augment, place}. Assumes nothing.
+use native.Mathlib.Omega.{arith}
+use Rattle.matching.proofs.Turn.{turn_of, turn_free, turn_crowded, turn-first, turn_last, turn_unheld, turn_ready, turn_below, turn_won, turn_lost, turn_less}
+use Rattle.matching.proofs.+augment_place.Goals as goal
+
+pub augment-loop-g-init : goal.augment-loop-g-init
+augment-loop-g-init t c = turn-first c.requires
+
+pub augment-returns-then-left-eq0 : goal.augment-returns-then-left-eq0
+augment-returns-then-left-eq0 t c = turn_last c.loop-g.invariant c.if-left-eq0.true
+
+pub augment-returns-then-h-ge-MOST_STEPS : goal.augment-returns-then-h-ge-MOST_STEPS
+augment-returns-then-h-ge-MOST_STEPS t c =
+    turn_unheld (turn_of c.loop-g.invariant c.row_known-1.given.fits c.lowest-class.ensures c.without.ensures c.holder-h.ensures) c.if-h-ge-MOST_STEPS.true
+
+pub augment-place-requires : goal.augment-place-requires
+augment-place-requires t c =
+    let w = turn_of c.loop-g.invariant c.row_known-1.given.fits c.lowest-class.ensures c.without.ensures c.holder-h.ensures in
+    (turn_below w c.decreases, turn_ready w c.if-h-ge-MOST_STEPS.false)
+
+pub augment-returns-then-place : goal.augment-returns-then-place
+augment-returns-then-place t c =
+    turn_won (turn_of c.loop-g.invariant c.row_known-1.given.fits c.lowest-class.ensures c.without.ensures c.holder-h.ensures)
+    c.place.ensures c.if-h-ge-MOST_STEPS.false c.if-place.true
+
+pub augment-loop-g-smaller : goal.augment-loop-g-smaller
+augment-loop-g-smaller t c =
+    turn_less (turn_of c.loop-g.invariant c.row_known-1.given.fits c.lowest-class.ensures c.without.ensures c.holder-h.ensures)
+    c.place.ensures c.if-place.false
+
+pub augment-loop-g-preserved : goal.augment-loop-g-preserved
+augment-loop-g-preserved t c =
+    turn_lost (turn_of c.loop-g.invariant c.row_known-1.given.fits c.lowest-class.ensures c.without.ensures c.holder-h.ensures)
+    c.place.ensures c.if-h-ge-MOST_STEPS.false c.if-place.false
+
+pub place-returns-then-idle-ne0 : goal.place-returns-then-idle-ne0
+place-returns-then-idle-ne0 t c = turn_free c.requires c.lowest-class.ensures c.without.ensures
+
+pub place-augment-requires : goal.place-augment-requires
+place-augment-requires t c = (omega (arith, c.decreases), turn_crowded c.requires c.if-idle-ne0.false)
+
+pub place-returns : goal.place-returns
+place-returns t c = c.augment.ensures

@@ -1,0 +1,32 @@
+-- `relax::bound::fewest` meets its contract. The loop's invariant: fewer than `m` coarse classes do not have `k` fine ones. Assumes nothing.
+use Prim.Native.Nat.{◌-◌}
+use native.Mathlib.Omega.{arith}
+use Rattle.relax.proofs.Tallying.{needs_one, needs_more, needs_all}
+use Rattle.relax.proofs.bound.fewest.Goals as goal
+
+pub loop-m-init : goal.loop-m-init
+loop-m-init c = (omega arith, needs_one c.args.counts.now (c.args.classes - 1) c.args.k c.requires.2)
+
+pub most-requires : goal.most-requires
+most-requires c = (c.requires.0, c.requires.1, omega arith)
+
+pub returns-then-most-k : goal.returns-then-most-k
+returns-then-most-k c = c.loop-m.invariant.1
+
+pub overflow_step-m : goal.overflow_step-m
+overflow_step-m c = omega arith
+
+pub loop-m-smaller : goal.loop-m-smaller
+loop-m-smaller c = omega arith
+
+pub loop-m-preserved : goal.loop-m-preserved
+loop-m-preserved c =
+    let a = c.args in
+    let l = c.loop-m in
+    (omega arith, needs_more a.counts.now (a.classes - 1) a.k l.m l.invariant.1 (omega arith) (omega arith))
+
+pub returns : goal.returns
+returns c =
+    let a = c.args in
+    let l = c.loop-m in
+    needs_all a.counts.now (a.classes - 1) a.k l.m (omega arith) l.invariant.1

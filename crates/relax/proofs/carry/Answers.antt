@@ -1,0 +1,46 @@
+-- `relax::carry` meets its contract. Assumes nothing.
+use mathlib.Core.Path.{refl}
+use Prim.Native.Nat.{◌-◌}
+use native.Mathlib.Omega.{arith}
+use Rattle.relax.proofs.Carrying.{carries_more}
+use Rattle.relax.proofs.Following.{carriable}
+use Rattle.relax.proofs.carry.Goals as goal
+
+pub loop-i-init : goal.loop-i-init
+loop-i-init c = (refl, omega arith, record { sized = refl; follows = λ i l. absurd (omega arith) })
+
+pub offset_bounds-rule-i : goal.offset_bounds-rule-i
+offset_bounds-rule-i c = omega (arith, c.requires.0.ruled.few_rules)
+
+pub bounds-rule-i : goal.bounds-rule-i
+bounds-rule-i c = omega (arith, c.requires.0.ruled.few_rules)
+
+pub say-requires : goal.say-requires
+say-requires c =
+    carriable c.args.size c.args.class.now c.args.rule.now c.requires.0 c.loop-i.i (omega arith) c.args.q c.requires.1 c.requires.2
+
+pub offset_bounds-carried-i : goal.offset_bounds-carried-i
+offset_bounds-carried-i c = omega (arith, c.requires.0.ruled.few_rules)
+
+pub bounds-carried-i : goal.bounds-carried-i
+bounds-carried-i c = omega (arith, c.requires.0.ruled.few_rules)
+
+pub overflow_step-i : goal.overflow_step-i
+overflow_step-i c = omega arith
+
+pub loop-i-smaller : goal.loop-i-smaller
+loop-i-smaller c = omega arith
+
+pub loop-i-preserved : goal.loop-i-preserved
+loop-i-preserved c =
+    let a = c.args in
+    let few = c.requires.0.ruled.few_rules in (
+      refl,
+      omega arith,
+      carries_more a.size c.loop-i.i a.class.now a.rule.now a.q c.loop-i.carried c.say.result (omega (arith, few)) c.loop-i.invariant.2 c.say.ensures,
+    )
+
+pub returns : goal.returns
+returns c =
+    let w = c.loop-i.invariant.2 in
+    record { sized = w.sized; follows = λ i l. w.follows i (omega arith) }
