@@ -94,6 +94,7 @@ class Text:
         self.f, self.env, self.helpers, self.results, self.renamed, self.log = f, dict(env), helpers, results, renamed, log
         self.subst = subst or {}
         self.nots = log_nots
+        self.used = {}
 
     def arm(self, k, words):
         """A field of an arm of a match, under its new name: old step and fields, from the place k up."""
@@ -107,10 +108,18 @@ class Text:
             at = self.f.parent[at]
         return best[1] if best else None
 
+    def use(self, root, k):
+        """Notes the deepest place of which a root's steps are used."""
+        was = self.used.get(root)
+        if was is None or self.f.count(k, was) is not None:
+            self.used[root] = k
+
     def whole(self, known, target):
         """A place as an argument: the root, as many places up as the callee's parameter is."""
         root, _ = known
         top, view = self.roots[root]
+        if target is not None:
+            self.use(root, target)
         n = self.f.count(top, target) if target is not None else None
         if n is None:
             self.log.append(f"place {target} of {root}")
@@ -128,6 +137,7 @@ class Text:
             return None, (root, at)
         rest = fields[i:]
         if rest[0] in AT_START:
+            self.use(root, f.at.get("Start", 0))
             rest = ["requires" if rest[0] == "pre" else rest[0]] + rest[1:]
             if self.f.cycle and rest[:2] in (["requires", "0"], ["requires", "1"]):
                 rest = ["decreases" if rest[1] == "0" else "requires"] + rest[2:]
@@ -135,6 +145,7 @@ class Text:
         top = self.roots[root][0]
         arm = self.arm(top, rest)
         if arm:
+            self.use(root, top)
             return root + "." + ".".join(arm), None
         q = f.find(at if at is not None else top, rest[0])
         if q is None:
@@ -142,6 +153,7 @@ class Text:
         if q is None:
             self.log.append(f"step {rest[0]} of {root}")
             return root + "." + ".".join(rest), None
+        self.use(root, q)
         new = f.step(q)[1]
         if len(rest) == 2 and rest[1] in ("true", "false") and re.search(r"(^|-)not-", new):
             # the older Rattle said of a test !x what x's negation is, and today's says what x is
@@ -351,6 +363,9 @@ def binders(segment):
 
 def convert(path, f, module, log):
     text = open(path, encoding="utf-8").read()
+    if any("kept" in variables for _, variables in f.loops):
+        # port.py takes a variable of this name for what an older Rattle called so
+        text = text.replace(".auto", ".kept")
     head, blocks = declarations(text)
     log_nots.clear()
     comments = [l for l in head if l.startswith("--")]
@@ -393,7 +408,8 @@ def convert(path, f, module, log):
                 return m[0]
             if f.typed[k]:
                 tied.append(k)
-                return " ".join([f"lts.{f.places[k][0]} tie.the-claims reads.Pre reads.Post"] + [f"goal.the-{w}-{n}" for (_, n), _ in f.loops for w in ("invariant", "decreases")])
+                claims = " tie.the-claims" if any(p[3] for p in f.places) else ""
+                return " ".join([f"lts.{f.places[k][0]}{claims} reads.Pre reads.Post"] + [f"goal.the-{w}-{n}" for (_, n), _ in f.loops for w in ("invariant", "decreases")])
             places_used.add(f.names[k])
             return f.names[k]
         return re.sub(r"tie\.(" + NAME + r")((?:\s+(?:invariant|decreases)-" + NAME + r")*)", one, t)
@@ -457,28 +473,49 @@ def convert(path, f, module, log):
             continue
         typ, clauses = rest[: d.start()].rstrip("\n"), rest[d.start():]
         params, result = split_type(typ)
-        env, order = {}, []
-        for p in params:
-            for n, ty in binders(p):
-                k = place_type(ty)
-                order.append(k)
-                if n and k is not None:
-                    env[n] = k
-        k = place_type(result)
-        if k is not None:
+        first = None
+        while True:
+            env, order = {}, []
+            for p in params:
+                for n, ty in binders(p):
+                    k = place_type(ty)
+                    order.append(k)
+                    if n and k is not None:
+                        env[n] = k
+            k = place_type(result)
+            if k is not None:
+                break
+            lhs = d[2].split()
+            head_len = d.end() - d.start()
+            if first is not None:
+                env = {n: first for n in env}
+                order = [first if k is not None else None for k in order]
+            env2 = {v: k for v, k in zip(lhs, order) if k is not None} if all(re.fullmatch(NAME, v) for v in lhs) else {}
+            typed = Text(f, env, helpers, results, renamed, log)
+            new_type = typed.turn(typ)
+            t = Text(f, env2, helpers, results, renamed, log)
+            term = t.turn(clauses[head_len:])
+            if first is not None:
+                new_type = re.sub(r"tie\.(?!Need|invariant|decreases)" + NAME, "tie." + f.places[first][0], new_type, count=1)
+                break
+            if sum(k is not None for k in order) != 1:
+                break
+            # the lemma speaks of the first place that knows what it needs
+            deep = None
+            for k in list(typed.used.values()) + list(t.used.values()):
+                if deep is None or f.count(k, deep) is not None:
+                    deep = k
+            declared = next(k for k in order if k is not None)
+            if deep is None or deep == declared or f.count(declared, deep) is None:
+                break
+            first = deep
+        if k is not None and place_type(result) is not None:
             # a name for a place further up: what is known there is known at the root, so no such name is needed
-            results[b["name"]] = k
+            results[b["name"]] = place_type(result)
             continue
-        typed = Text(f, env, helpers, results, renamed, log)
-        # the types are turned piece by piece, so that tie.PLACE stays whole
-        new_type = types(typed.turn(typ))
-        lhs = d[2].split()
-        env2 = {v: k for v, k in zip(lhs, order) if k is not None} if all(re.fullmatch(NAME, v) for v in lhs) else {}
-        t = Text(f, env2, helpers, results, renamed, log)
-        head_len = d.end() - d.start()
         if any(k is not None for k in order):
             helpers[b["name"]] = [k for k in order if k is not None]
-        answers.append("\n".join(b["comment"] + [f"{m[1]}{b['name']} : {new_type}", types(clauses[:head_len] + t.turn(clauses[head_len:]))]))
+        answers.append("\n".join(b["comment"] + [f"{m[1]}{b['name']} : {types(new_type)}", types(clauses[:head_len] + term)]))
     # the old names of invariants, where a lemma speaks of them
     folder = os.path.dirname(path)
     def names_in(body, line):

@@ -106,8 +106,7 @@ pub fn read_job(sheet: &[u8]) -> Sheet
     else {
         return read;
     };
-    let job = read.job;
-    let kept = kept_steps(&job.skipped, steps);
+    let kept = kept_steps(&read.job.skipped, steps);
     let count = kept.count;
     // Mostly no step is skipped.
     if count == steps {
@@ -120,6 +119,6 @@ pub fn read_job(sheet: &[u8]) -> Sheet
             steps: count,
             rules,
         },
-        job: job_over(job, &step, count),
+        job: job_over(read.job, &step, count),
     }
 }

@@ -36,7 +36,7 @@ pub struct SheetJob {
     pub rule_limit: RuleBytes,
 }
 
-#[derive(Drop)]
+#[derive(Clone, Copy)]
 pub enum Reading {
     Readable {
         people: usize,

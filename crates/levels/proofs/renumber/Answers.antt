@@ -54,7 +54,7 @@ loop-i-preserved c =
     let a = c.args in
     let r = get_or a.rule.now l.i 0 in (
       omega arith,
-      renumbered_more l.i c.moved.result a.rule.now a.new.now l.auto (omega (arith, c.requires.0.few_rules))
+      renumbered_more l.i c.moved.result a.rule.now a.new.now l.kept (omega (arith, c.requires.0.few_rules))
           (subst (λ (q : ℕ). Packed (get_or a.new.now q 0 % 16) (least_in r) (most_in r) (load_in r) (scope_in r) c.moved.result) c.level-q.ensures.0 c.moved.ensures)
           l.invariant.1,
     )

@@ -59,10 +59,10 @@ pub loop-x-preserved : goal.loop-x-preserved
 loop-x-preserved c =
     let a = c.args in
     let l = c.loop-x in
-    (l.invariant.0, omega arith, copied_more class_entries l.x (row_entry a.old.now a.class.now) l.auto (omega (arith, c.requires.1.few)) l.invariant.2)
+    (l.invariant.0, omega arith, copied_more class_entries l.x (row_entry a.old.now a.class.now) l.kept (omega (arith, c.requires.1.few)) l.invariant.2)
 
 pub returns : goal.returns
 returns c =
     let a = c.args in
     let l = c.loop-x in
-    copied_rows a.count l.x a.old.now a.class.now l.auto l.invariant.2 (omega arith)
+    copied_rows a.count l.x a.old.now a.class.now l.kept l.invariant.2 (omega arith)

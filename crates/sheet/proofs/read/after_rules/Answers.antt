@@ -14,6 +14,7 @@ use Rattle.sheet.proofs.read.after_rules.Lts as lts
 use Rattle.sheet.proofs.read.after_rules.Reads as reads
 use Rattle.sheet.proofs.read.after_rules.Tie as tie
 use Rattle.sheet.proofs.read.after_rules.Goals as goal
+use Rattle.sheet.proofs.read.after_rules.Goals.{Start}
 
 -- the listed cards and the arrays filled from them
 filled : (c : lts.After-fill_job tie.the-claims reads.Pre reads.Post) → let a = c.args in
@@ -23,12 +24,12 @@ filled c =
     record { people_listed = q.0; steps_listed = q.1; few = q.2; rules_listed = q.3; arrays = c.fill_job-job.ensures; few_levels = q.4.levels }
 
 -- the marks are those of the three chains
-marking : (c : lts.After-fill_job tie.the-claims reads.Pre reads.Post) → let a = c.args in
+marking : (c : Start) → let a = c.args in
     Marking a.s.now a.cards a.marks.now (on_three (take a.p a.people.now) (take a.n a.steps.now) (take a.r a.rules.now))
 marking c = c.requires.4
 
 -- the sheet is no longer than a slice can be
-sheet-length : (c : lts.After-fill_job tie.the-claims reads.Pre reads.Post) → length c.args.s.now < 18446744073709551616
+sheet-length : (c : Start) → length c.args.s.now < 18446744073709551616
 sheet-length c = omega arith
 
 pub fill_job-job-requires : goal.fill_job-job-requires
@@ -66,7 +67,7 @@ bounds-people-i c =
 
 pub overflow_cast-people : goal.overflow_cast-people
 overflow_cast-people c =
-    omega (arith, (filled c.before.before.before.before.before.before.before.before.before.before.before.before.before.before.before).people_listed.inside c.tag_clash-i.result (person-found c.before.before.before.before c.in-1.is), sheet-length c.before.before.before.before.before.before.before.before.before.before.before.before.before.before.before)
+    omega (arith, (filled c.before.before.before.before.before.before.before.before.before.before.before.before.before.before.before).people_listed.inside c.tag_clash-i.result (person-found c.before.before.before.before c.in-1.is), sheet-length c.before.before.before.before.before.before.before.before.before.before.before.before.before.before.before.before.before)
 
 pub bounds-steps-j : goal.bounds-steps-j
 bounds-steps-j c =
@@ -74,7 +75,7 @@ bounds-steps-j c =
 
 pub overflow_cast-steps : goal.overflow_cast-steps
 overflow_cast-steps c =
-    omega (arith, (filled c.before.before.before.before.before.before.before.before.before.before.before.before.before.before.before).steps_listed.inside c.tag_clash-j.result (step-found c.before.before.before.before c.in-2.is).1, sheet-length c.before.before.before.before.before.before.before.before.before.before.before.before.before.before.before)
+    omega (arith, (filled c.before.before.before.before.before.before.before.before.before.before.before.before.before.before.before).steps_listed.inside c.tag_clash-j.result (step-found c.before.before.before.before c.in-2.is).1, sheet-length c.before.before.before.before.before.before.before.before.before.before.before.before.before.before.before.before.before)
 
 pub bounds-people-k : goal.bounds-people-k
 bounds-people-k c =
@@ -82,27 +83,27 @@ bounds-people-k c =
 
 pub overflow_cast-people-in-3 : goal.overflow_cast-people-in-3
 overflow_cast-people-in-3 c =
-    omega (arith, (filled c.before.before.before.before.before.before.before.before.before.before.before.before.before.before.before).people_listed.inside c.class_clash-k.result (class-found c.before.before.before.before c.in-3.is).2, sheet-length c.before.before.before.before.before.before.before.before.before.before.before.before.before.before.before)
+    omega (arith, (filled c.before.before.before.before.before.before.before.before.before.before.before.before.before.before.before).people_listed.inside c.class_clash-k.result (class-found c.before.before.before.before c.in-3.is).2, sheet-length c.before.before.before.before.before.before.before.before.before.before.before.before.before.before.before.before.before)
 
 pub returns-in-1 : goal.returns-in-1
 returns-in-1 c =
-    refuse_person_tag (filled c.before.before.before.before.before.before.before.before.before.before.before.before.before.before.before.before) (marking c.before.before.before.before.before.before.before.before.before.before.before.before.before.before.before.before) c.tag_clash-i.ensures (person-found c.before.before.before.before.before c.in-1.is) _ c.refused.ensures
+    refuse_person_tag (filled c.before.before.before.before.before.before.before.before.before.before.before.before.before.before.before.before) (marking c.before.before.before.before.before.before.before.before.before.before.before.before.before.before.before.before.before.before) c.tag_clash-i.ensures (person-found c.before.before.before.before.before c.in-1.is) _ c.refused.ensures
 
 pub returns-in-2 : goal.returns-in-2
 returns-in-2 c =
     let w = step-found c.before.before.before.before.before c.in-2.is in
-    refuse_step_tag (filled c.before.before.before.before.before.before.before.before.before.before.before.before.before.before.before.before) (marking c.before.before.before.before.before.before.before.before.before.before.before.before.before.before.before.before) c.tag_clash-i.ensures w.0 c.tag_clash-j.ensures w.1 _ c.refused-in-2.ensures
+    refuse_step_tag (filled c.before.before.before.before.before.before.before.before.before.before.before.before.before.before.before.before) (marking c.before.before.before.before.before.before.before.before.before.before.before.before.before.before.before.before.before.before) c.tag_clash-i.ensures w.0 c.tag_clash-j.ensures w.1 _ c.refused-in-2.ensures
 
 pub returns-in-3 : goal.returns-in-3
 returns-in-3 c =
     let w = class-found c.before.before.before.before.before c.in-3.is in
-    refuse_class (filled c.before.before.before.before.before.before.before.before.before.before.before.before.before.before.before.before) (marking c.before.before.before.before.before.before.before.before.before.before.before.before.before.before.before.before) c.tag_clash-i.ensures w.0 c.tag_clash-j.ensures w.1
+    refuse_class (filled c.before.before.before.before.before.before.before.before.before.before.before.before.before.before.before.before) (marking c.before.before.before.before.before.before.before.before.before.before.before.before.before.before.before.before.before.before) c.tag_clash-i.ensures w.0 c.tag_clash-j.ensures w.1
     c.class_clash-k.ensures w.2 _ c.refused-in-3.ensures
 
 pub returns-in-4 : goal.returns-in-4
 returns-in-4 c =
     let w = four_four _ _ _ _ (sym c.first_found.ensures ∙ c.in-4.is) in
-    refuse_loose (filled c.before.before.before.before.before.before.before.before.before.before.before.before.before.before) (marking c.before.before.before.before.before.before.before.before.before.before.before.before.before.before) c.tag_clash-i.ensures (ltb-false _ _ w.0) c.tag_clash-j.ensures
+    refuse_loose (filled c.before.before.before.before.before.before.before.before.before.before.before.before.before.before) (marking c.before.before.before.before.before.before.before.before.before.before.before.before.before.before.before.before) c.tag_clash-i.ensures (ltb-false _ _ w.0) c.tag_clash-j.ensures
     (ltb-false _ _ w.1) c.class_clash-k.ensures (ltb-false _ _ w.2) c.first_loose-c.ensures (ltb-true _ _ w.3) _ c.refused-in-4.ensures
 
 pub returns-in_default : goal.returns-in_default
@@ -110,5 +111,5 @@ returns-in_default c =
     let e = c.first_found.ensures in
     let r = c.in_default.in_default-own.rest in
     let w = four_none _ _ _ _ (λ d. r.0.0.0.1 (e ∙ d)) (λ d. r.0.0.1 (e ∙ d)) (λ d. r.0.1 (e ∙ d)) (λ d. r.1 (e ∙ d)) in
-    read_job (filled c.before.before.before.before.before.before.before.before.before.before.before.before.before) (marking c.before.before.before.before.before.before.before.before.before.before.before.before.before) c.tag_clash-i.ensures (ltb-false _ _ w.0) c.tag_clash-j.ensures
+    read_job (filled c.before.before.before.before.before.before.before.before.before.before.before.before.before) (marking c.before.before.before.before.before.before.before.before.before.before.before.before.before.before.before) c.tag_clash-i.ensures (ltb-false _ _ w.0) c.tag_clash-j.ensures
     (ltb-false _ _ w.1) c.class_clash-k.ensures (ltb-false _ _ w.2) c.first_loose-c.ensures (ltb-false _ _ w.3)
