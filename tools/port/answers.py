@@ -37,6 +37,7 @@ class Function:
         self.at = {p[0]: k for k, p in enumerate(self.places)}
         self.new_at = {n: k for k, n in enumerate(self.names)}
         self.arms = data["arms"]
+        self.args = {o.split(".")[-1]: n.split(".")[-1] for o, n in data["args"]}
         self.cycle = False
         self.typed = [bool(t) for t in data["typed"]]
         self.parent = [self.at.get(p[1]) if p[1] is not None else None for p in self.places]
@@ -138,6 +139,8 @@ class Text:
         rest = fields[i:]
         if rest[0] in AT_START:
             self.use(root, f.at.get("Start", 0))
+            if rest[0] in ("args", "ranges") and len(rest) > 1:
+                rest[1] = f.args.get(rest[1], rest[1])
             rest = ["requires" if rest[0] == "pre" else rest[0]] + rest[1:]
             if self.f.cycle and rest[:2] in (["requires", "0"], ["requires", "1"]):
                 rest = ["decreases" if rest[1] == "0" else "requires"] + rest[2:]
@@ -147,6 +150,8 @@ class Text:
         if arm:
             self.use(root, top)
             return root + "." + ".".join(arm), None
+        if rest[0].startswith(("told-", "fits-")):
+            return root + "." + ".".join([f.args.get(rest[0], rest[0])] + rest[1:]), None
         q = f.find(at if at is not None else top, rest[0])
         if q is None:
             q = f.find(top, rest[0])
@@ -501,6 +506,13 @@ def convert(path, f, module, log):
             if sum(k is not None for k in order) != 1:
                 break
             # the lemma speaks of the first place that knows what it needs
+            if re.search(r"\b(omega|search|grind|cc)\b", term):
+                # a tactic reads what is known at the place itself
+                name = f.places[next(k for k in order if k is not None)]
+                if any(p[0].startswith(name[0] + "-unread") for p in f.places):
+                    first = f.at[name[1]]
+                    continue
+                break
             deep = None
             for k in list(typed.used.values()) + list(t.used.values()):
                 if deep is None or f.count(k, deep) is not None:

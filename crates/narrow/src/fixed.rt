@@ -10,7 +10,7 @@ use workflow::count::class_count;
 
 // The classes that some steps of a scope have in every plan of the domains: their people, and how many
 // classes they are; and the steps that can still have several.
-#[derive(Drop)]
+#[derive(Clone, Copy)]
 pub struct Forced {
     pub used: u64,
     pub count: usize,

@@ -35,7 +35,7 @@ use Rattle.remaining.proofs.Whole.{whole_job}
 -- a set in an array is gathered, and so is the 0 after the last
 gathered_at : (kept sets : List ℕ) (i : ℕ) → get_or (map (gather kept) sets) i 0 ≡ gather kept (get_or sets i 0)
 gathered_at kept sets i =
-    ap (λ (d : ℕ). get_or (map (gather kept) sets) i d) (sym (gather_none kept)) ∙ ListN.get_d_map (gather kept) sets i 0
+    ap (λ (d : ℕ). get_or (map (gather kept) sets) i d) (sym (gather_none kept)) ∙ ListN.get_or-map (gather kept) sets i 0
 
 gathered_small : (kept sets : List ℕ) (i : ℕ) → get_or (map (gather kept) sets) i 0 < 2 ^ length kept
 gathered_small kept sets i = subst (λ (v : ℕ). v < 2 ^ length kept) (sym (gathered_at kept sets i)) (gather_below kept (get_or sets i 0))

@@ -4,8 +4,9 @@ use native.Mathlib.Omega.{arith}
 use lib.ListN.{get_or}
 use Rattle.remaining.proofs.Gather.{gather_empty}
 use Rattle.remaining.proofs.Gathering.{gathering_none, gathering_small, gathering_more, gathering_all}
+use Rattle.remaining.proofs.gathered.Lts as lts
+use Rattle.remaining.proofs.gathered.Reads as reads
 use Rattle.remaining.proofs.gathered.Goals as goal
-use Rattle.remaining.proofs.gathered.Goals.{At-loop-k}
 
 pub returns-then-set-eq0 : goal.returns-then-set-eq0
 returns-then-set-eq0 c = gather_empty _ _ c.if-set-eq0.true
@@ -28,19 +29,19 @@ pub bounds-step-count : goal.bounds-step-count
 bounds-step-count c = omega (arith, c.requires.few)
 
 -- the step whose bit is read
-one-of-them : (c : At-loop-k)
+one-of-them : (c : lts.After-left reads.Pre reads.Post goal.the-invariant-loop-k goal.the-decreases-loop-k)
     → get_or c.args.step.now (c.args.count - 1 - c.loop-k.k) 0 < 12
 one-of-them c =
     c.requires.below (c.args.count - 1 - c.loop-k.k) (omega arith)
 
 pub overflow_cast-left : goal.overflow_cast-left
-overflow_cast-left c = omega (arith, one-of-them c.before.before.before.before)
+overflow_cast-left c = omega (arith, one-of-them c.before)
 
 pub overflow_cast-left-in-loop-k : goal.overflow_cast-left-in-loop-k
-overflow_cast-left-in-loop-k c = omega (arith, one-of-them c.before.before.before.before)
+overflow_cast-left-in-loop-k c = omega (arith, one-of-them c.before)
 
 pub overflow_shr-left : goal.overflow_shr-left
-overflow_shr-left c = omega (arith, one-of-them c.before.before.before.before)
+overflow_shr-left c = omega (arith, one-of-them c.before)
 
 pub overflow_add-left : goal.overflow_add-left
 overflow_add-left c =

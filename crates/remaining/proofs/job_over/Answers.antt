@@ -7,7 +7,7 @@ pub returns : goal.returns
 unfolding job_over
 returns c =
     λ i.
-    let j = c.args.t1 in
+    let j = c.args.job in
     record {
       levels = j.levels;
       person_tag = j.person_tag;
