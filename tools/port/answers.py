@@ -371,6 +371,7 @@ def convert(path, f, module, log):
     if any("kept" in variables for _, variables in f.loops):
         # port.py takes a variable of this name for what an older Rattle called so
         text = text.replace(".auto", ".kept")
+    text = re.sub(r"(?<=[^\s(])\.inv(?=[\s.),;]|$)", ".invariant", text, flags=re.M)
     head, blocks = declarations(text)
     log_nots.clear()
     comments = [l for l in head if l.startswith("--")]
@@ -558,6 +559,201 @@ def convert(path, f, module, log):
         pass
 
 
+def convert_cycle(path, functions, module, sources, log):
+    """The same for a cycle of calls: each function's goals have its name before theirs, and each answer takes the measure first."""
+    text = open(path, encoding="utf-8").read()
+    text = re.sub(r"(?<=[^\s(])\.inv(?=[\s.),;]|$)", ".invariant", text, flags=re.M)
+    head, blocks = declarations(text)
+    comments = [l for l in head if l.startswith("--")]
+    uses = [l for l in head if l.startswith("use ") or (l.startswith("  ") and l.strip())]
+    uses = "\n".join(uses)
+    uses = "\n".join(u for u in re.split(r"\n(?=use )", uses) if not re.search(r"(\.\{statement\}|\.Tie\.\{close\}| as \S+|^use borrow\.Fn\..*)$", u.strip()))
+    invariants, answers, renamed, results, helpers = [], [], {}, {}, {}
+    inlines = {}
+    log_nots.clear()
+    applied = re.compile(r"(" + NAME + r")-lts\.(" + NAME + r")((?: (?:\([^()]*\)|" + NAME + r"\.Post|[^\s()]*(?:Inv|inv|μ|decreases|invariant)[^\s()]*))*)")
+    kept = []
+    for b in blocks:
+        whole = "\n".join(b["lines"])
+        m = applied.search(b["lines"][0] if ":" in b["lines"][0] else whole)
+        if re.search(r"statement M", b["lines"][0]) or re.search(r"Measures|: ℕ → In |Claims$", b["lines"][0]):
+            d = re.match(r"abbrev μ-(\S+) : Measures", b["lines"][0])
+            if d:
+                body = " ".join(b["lines"][1:]).split("=", 1)[1].strip()
+                def arg(m):
+                    k = m[1].count(".1")
+                    names = sources[d[1]]
+                    n, ref = names[k]
+                    return "l." + n + (".now" if ref and not m[0].endswith(".now") and False else "")
+                body = re.sub(r"\ba((?:\.1)*)(?:\.0)?(?=[\s.)]|$)", arg, body)
+                invariants.append(f"abbrev pub decreases-{d[1]} : goal.decreases-{d[1]}\ndecreases-{d[1]} l = {body}")
+            continue
+        if not m:
+            answers.append("\n".join(b["comment"] + [whole]))
+            continue
+        b["f"] = m[1]
+        b["text"] = applied.sub(lambda t: "tie." + t[2], whole)
+        kept.append(b)
+    keys = {}
+    for name, f in functions.items():
+        f.cycle = True
+        keys[name] = {}
+        for k, (o, n) in enumerate(f.needs):
+            keys[name].setdefault(goal_key(o), k)
+    for b in kept:
+        m = re.match(r"^.*?:\s+\(t : ℕ\) → tie\.Need-(" + NAME + r")\s*$", b["text"].split("\n")[0])
+        if m:
+            b["need"] = keys[b["f"]].get(goal_key(m[1]))
+            if b["need"] is None:
+                log.append(f"no goal for {b['text'].splitlines()[0]}")
+                b["gone"] = True
+            else:
+                renamed[b["name"]] = b["f"] + "-" + functions[b["f"]].needs[b["need"]][1]
+    places_used = set()
+    for b in kept:
+        if b.get("gone"):
+            continue
+        f, name = functions[b["f"]], b["f"]
+
+        def types(t):
+            def one(m):
+                k = f.place(m[1])
+                if k is None:
+                    log.append(f"place {m[1]}")
+                    return m[0]
+                places_used.add(f"{name}-{f.names[k]}")
+                return f"{name}-{f.names[k]} t"
+            return re.sub(r"tie\.(" + NAME + r")", one, t)
+
+        first = b["text"].split("\n")[0]
+        body = "\n".join(b["text"].split("\n")[1:])
+        m = re.search(r":\s+tie\.(invariant|decreases)-(" + NAME + ")", first)
+        if m:
+            loops = {plain(o): (n, k) for k, ((o, n), _) in enumerate(f.loops)}
+            hit = loops.get(plain(m[2]))
+            if hit is None:
+                log.append(f"loop {m[2]}")
+                continue
+            new, k = hit
+            variables, changed = f.loops[k][1], f.changed[k]
+            d = re.match(r"^(unfolding [^\n]*\n)?" + re.escape(b["name"]) + r"[ \t]+([^=\n]*?)[ \t]*=[ \t]?(.*)$", body, re.S)
+            params = d[2].split()
+            slots = ["l." + v if not c else "l.initial." + v for v, c in zip(variables, changed)] + ["l." + v for v, c in zip(variables, changed) if c]
+            if len(params) != len(slots):
+                log.append(f"{b['name']} takes {len(params)}, and the loop has {len(slots)}: {' '.join(params)} / {' '.join(slots)}")
+                slots += ["l.MISSING"] * len(params)
+            t = Text(f, {}, {}, {}, {}, log, dict(zip(params, slots)))
+            invariants.append("\n".join(b["comment"] + [f"abbrev pub {m[1]}-{name}-{new} : goal.{m[1]}-{name}-{new}", f"{d[1] or ''}{m[1]}-{name}-{new} l = {t.turn(d[3])}"]))
+            continue
+        if "need" in b:
+            k = b["need"]
+            new = name + "-" + f.needs[k][1]
+            d = re.match(r"^(unfolding [^\n]*\n)?" + re.escape(b["name"]) + r"((?:[ \t]+[^\s(){}.;,@=]+)*)[ \t]*=(.*)$", body, re.S)
+            if d[3].strip() in ("search rules", "search needs") and not d[1]:
+                continue
+            var = d[2].split()[1]
+            place = f.place(f.asked[k][0])
+            view = f.typed[place]
+            at = {var: -1 - place if view else place}
+            term = d[3]
+            lets = ""
+            again = True
+            seen = []
+            while again:
+                again = False
+                for h, (of, pt, ty, pl, others, body_of, _) in inlines.items():
+                    pattern = r"\(" + re.escape(h) + r" t (?:[^\s()]+|\([^()]*\))\)|(?<![\w-])" + re.escape(h) + r" t (?:[^\s(),]+|\([^()]*\))"
+                    if of == b["f"] and re.search(pattern, term + lets):
+                        term = re.sub(pattern, h, term)
+                        lets = re.sub(pattern, h, lets)
+                        if h not in seen:
+                            seen.append(h)
+                            lam = "λ " + " ".join(others) + ". " if others else ""
+                            ty2 = re.sub(r"(?<![\w.-])" + re.escape(pt) + r"(?=\.)", var, ty) if pt else ty
+                            bo2 = re.sub(r"(?<![\w.-])" + re.escape(pl) + r"(?=[.\s),;]|$)", var, body_of)
+                            lets = f"\n    let {h} : {ty2} = {lam}{bo2} in" + lets
+                        again = True
+            t = Text(f, at, helpers, results, renamed, log)
+            whole_term = t.turn(lets + (" " if lets and not term.startswith("\n") else "") + term)
+            answers.append("\n".join(b["comment"] + [f"pub {new} : goal.{new}", f"{d[1] or ''}{new} t {var} ={whole_term}"]))
+            continue
+        whole = b["text"]
+        m = re.match(r"^((?:(?:pub|abbrev|unfoldable)\s+)*)" + re.escape(b["name"]) + r"\s+:\s?", whole)
+        rest = whole[m.end():]
+        d = re.search(r"^(unfolding [^\n]*\n)?" + re.escape(b["name"]) + r"((?:\s+[^=\n]+?)?)\s*=", rest, re.M)
+        typ, clauses = rest[: d.start()].rstrip("\n"), rest[d.start():]
+        params, result = split_type(typ)
+
+        def place_type(t):
+            q = re.match(r"^\s*tie\.(" + NAME + r")", t)
+            return f.place(q[1]) if q and not q[1].startswith(("Need-", "invariant-", "decreases-")) else None
+
+        if place_type(result) is not None:
+            results[b["name"]] = place_type(result)
+            continue
+        deep = None
+        while True:
+            env, order = {}, []
+            for p in params:
+                for n, ty in binders(p):
+                    k = place_type(ty)
+                    k = deep if k is not None and deep is not None else k
+                    order.append(k)
+                    if n and k is not None:
+                        env[n] = k
+            lhs = d[2].split()
+            env2 = {v: k for v, k in zip(lhs, order) if k is not None}
+            typed = Text(f, env, helpers, results, renamed, log)
+            new_type = typed.turn(typ)
+            t = Text(f, env2, helpers, results, renamed, log)
+            head_len = d.end() - d.start()
+            term = t.turn(clauses[head_len:])
+            if deep is not None or re.search(r"\b(omega|search|grind|cc)\b", term):
+                break
+            for k in list(typed.used.values()) + list(t.used.values()):
+                if deep is None or f.count(k, deep) is not None:
+                    deep = k
+            if deep is None:
+                break
+        if deep is not None:
+            new_type = re.sub(r"tie\.(?!Need|invariant|decreases)" + NAME, "tie." + f.places[deep][0], new_type, count=1)
+        order = [k for k in order if k is not None]
+        if any(f.typed[k] for k in order):
+            # said anew, with a let, in each answer that wants it
+            segments, bound = split_type(typ)
+            pname = [n for q in segments for n, ty in binders(q) if place_type(ty) is not None]
+            rest_of = [q for q in segments if not any(place_type(ty) is not None or ty == "ℕ" and n == "t" for n, ty in binders(q))]
+            others = [v for v in lhs if v != "t" and env2.get(v) is None]
+            inlines[b["name"]] = (b["f"], pname[0] if pname and pname[0] else None, " → ".join(rest_of + [bound]),
+                next(v for v in lhs if env2.get(v) is not None), others, clauses[head_len:].strip(), b["comment"])
+            continue
+        helpers[b["name"]] = order
+        answers.append("\n".join(b["comment"] + [f"{m[1]}{b['name']} : {types(new_type)}", types(clauses[:head_len] + term)]))
+    folder = os.path.dirname(path)
+    text = uses + f"\nuse {module}.Given as goal\n\n" + "\n\n".join(invariants) + "\n"
+    open(os.path.join(folder, "Invariants.antt"), "w", encoding="utf-8").write(pruned(text))
+    extra = f"\nuse {module}.Goals as goal"
+    if places_used:
+        extra += f"\nuse {module}.Goals.{{{', '.join(sorted(places_used))}}}"
+    if log_nots:
+        for name, module_of in (("not", "mathlib.Core.Bool"), ("ap", "mathlib.Core.Path")):
+            if not re.search(r"[{ ]" + name + r"[,}]", uses):
+                uses += f"\nuse {module_of}.{{{name}}}"
+    text = "\n".join(comments) + "\n" + uses + extra + "\n\n" + "\n\n".join(answers) + "\n"
+    open(os.path.join(folder, "Answers.antt"), "w", encoding="utf-8").write(pruned(text))
+    os.remove(path)
+
+
+def parameters(crate, name):
+    """The parameters of a function, and whether each is a reference."""
+    for folder, _, files in os.walk(os.path.join(TOP, "crates", crate, "src")):
+        for n in files:
+            m = re.search(r"fn " + name + r"(?:<[^>]*>)?\(([^{]*?)\)\s*(?:->|requires|ensures|\{|where)", open(os.path.join(folder, n), encoding="utf-8").read(), re.S)
+            if m:
+                return [(p.split(":")[0].strip(), p.split(":", 1)[1].strip().startswith("&")) for p in m[1].split(",") if ":" in p]
+    return []
+
+
 def pruned(text):
     """The file without the names that it imports and does not use."""
     m = re.search(r"\n\n(?!use )", text)
@@ -599,6 +795,18 @@ def main():
             print(r.stdout[-3000:], r.stderr[-3000:])
             raise SystemExit(f"{crate}: no names")
         data = json.load(open(to + "/names.json"))
+        cycles = {}
+        for key, d in data.items():
+            m = re.match(r"Rattle-" + crate + r"-proofs\.(.*\+[^.]*)\.Lts-(.*)$", key)
+            if m:
+                cycles.setdefault(m[1], {})[m[2]] = Function(d)
+        for name, functions in cycles.items():
+            path = os.path.join(folder, "proofs", *name.split("."), "Proof.antt")
+            if os.path.exists(path):
+                log = []
+                convert_cycle(path, functions, f"Rattle.{crate}.proofs.{name}", {n: parameters(crate, n) for n in functions}, log)
+                for line in log:
+                    print(f"{crate}: {name}: {line}")
         for key, d in data.items():
             m = re.match(r"Rattle-" + crate + r"-proofs\.(.*)\.Lts$", key)
             if not m:
