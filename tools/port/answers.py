@@ -37,6 +37,7 @@ class Function:
         self.at = {p[0]: k for k, p in enumerate(self.places)}
         self.new_at = {n: k for k, n in enumerate(self.names)}
         self.arms = data["arms"]
+        self.params = data["params"]
         self.args = {o.split(".")[-1]: n.split(".")[-1] for o, n in data["args"]}
         self.cycle = False
         self.typed = [bool(t) for t in data["typed"]]
@@ -160,6 +161,9 @@ class Text:
             return root + "." + ".".join(rest), None
         self.use(root, q)
         new = f.step(q)[1]
+        callee = f.places[q][3]
+        if len(rest) > 2 and rest[1] == "auto" and rest[2].isdigit() and f.params.get(callee):
+            rest[2] = f.params[callee][int(rest[2])]
         if len(rest) == 2 and rest[1] in ("true", "false") and re.search(r"(^|-)not-", new):
             # the older Rattle said of a test !x what x's negation is, and today's says what x is
             self.nots.append(new)
@@ -368,10 +372,16 @@ def binders(segment):
 
 def convert(path, f, module, log):
     text = open(path, encoding="utf-8").read()
+    for old, new in f.args.items():
+        if re.fullmatch(r"t\d+", old):
+            text = re.sub(r"\." + old + r"(?![\w-])", "." + new, text)
     if any("kept" in variables for _, variables in f.loops):
         # port.py takes a variable of this name for what an older Rattle called so
         text = text.replace(".auto", ".kept")
-    text = re.sub(r"(?<=[^\s(])\.inv(?=[\s.),;]|$)", ".invariant", text, flags=re.M)
+    for was, now in (("inv", "invariant"), ("pre", "requires"), ("taken", "true"), ("left", "false")):
+        steps = r"(?:loop-test\d*|if\d+)" if was in ("taken", "left") else ""
+        text = re.sub(r"(?<=[^\s(])(\." + steps + r")?\." + was + r"(?=[\s.),;]|$)" if not steps else r"(\." + steps + r")\." + was + r"(?=[\s.),;]|$)",
+            lambda m: (m[1] or "") + "." + now, text, flags=re.M)
     head, blocks = declarations(text)
     log_nots.clear()
     comments = [l for l in head if l.startswith("--")]
@@ -463,10 +473,11 @@ def convert(path, f, module, log):
                 continue
             params = d[2].split()
             var = params[0] if params else "c"
+            more = "".join(" " + v for v in params[1:] if v != "κs")
             place = f.place(f.asked[k][0])
             view = place is not None and f.typed[place]
             t = Text(f, {var: -1 - place if view else place} if place is not None else {}, helpers, results, renamed, log)
-            answers.append("\n".join(b["comment"] + [f"pub {new} : goal.{new}", f"{d[1] or ''}{new} {var} ={t.turn(d[3])}"]))
+            answers.append("\n".join(b["comment"] + [f"pub {new} : goal.{new}", f"{d[1] or ''}{new} {var}{more} ={t.turn(d[3])}"]))
             continue
         # a lemma of the file's own
         whole = "\n".join(b["lines"])
@@ -562,7 +573,10 @@ def convert(path, f, module, log):
 def convert_cycle(path, functions, module, sources, log):
     """The same for a cycle of calls: each function's goals have its name before theirs, and each answer takes the measure first."""
     text = open(path, encoding="utf-8").read()
-    text = re.sub(r"(?<=[^\s(])\.inv(?=[\s.),;]|$)", ".invariant", text, flags=re.M)
+    for was, now in (("inv", "invariant"), ("pre", "requires"), ("taken", "true"), ("left", "false")):
+        steps = r"(?:loop-test\d*|if\d+)" if was in ("taken", "left") else ""
+        text = re.sub(r"(?<=[^\s(])(\." + steps + r")?\." + was + r"(?=[\s.),;]|$)" if not steps else r"(\." + steps + r")\." + was + r"(?=[\s.),;]|$)",
+            lambda m: (m[1] or "") + "." + now, text, flags=re.M)
     head, blocks = declarations(text)
     comments = [l for l in head if l.startswith("--")]
     uses = [l for l in head if l.startswith("use ") or (l.startswith("  ") and l.strip())]
@@ -570,6 +584,8 @@ def convert_cycle(path, functions, module, sources, log):
     uses = "\n".join(u for u in re.split(r"\n(?=use )", uses) if not re.search(r"(\.\{statement\}|\.Tie\.\{close\}| as \S+|^use borrow\.Fn\..*)$", u.strip()))
     invariants, answers, renamed, results, helpers = [], [], {}, {}, {}
     inlines = {}
+    # a cycle of one function has no name before its goals
+    front = {n: n + "-" if len(functions) > 1 else "" for n in functions}
     log_nots.clear()
     applied = re.compile(r"(" + NAME + r")-lts\.(" + NAME + r")((?: (?:\([^()]*\)|" + NAME + r"\.Post|[^\s()]*(?:Inv|inv|μ|decreases|invariant)[^\s()]*))*)")
     kept = []
@@ -593,6 +609,13 @@ def convert_cycle(path, functions, module, sources, log):
             continue
         b["f"] = m[1]
         b["text"] = applied.sub(lambda t: "tie." + t[2], whole)
+        # what is required had the measure beside it
+        while True:
+            d = re.search(r"let (" + NAME + r") = (" + NAME + r"(?:\.[\w-]+)*\.requires|\([^()]*\)\.requires) in\s*", b["text"])
+            if not d:
+                break
+            end = re.search(r"\n(?=\S)", b["text"][d.end():])
+            b["text"] = b["text"][: d.start()] + re.sub(r"(?<![\w.-])" + re.escape(d[1]) + r"(?![\w-])(?! :)", lambda _: d[2], b["text"][d.end():])
         kept.append(b)
     keys = {}
     for name, f in functions.items():
@@ -608,7 +631,7 @@ def convert_cycle(path, functions, module, sources, log):
                 log.append(f"no goal for {b['text'].splitlines()[0]}")
                 b["gone"] = True
             else:
-                renamed[b["name"]] = b["f"] + "-" + functions[b["f"]].needs[b["need"]][1]
+                renamed[b["name"]] = front[b["f"]] + functions[b["f"]].needs[b["need"]][1]
     places_used = set()
     for b in kept:
         if b.get("gone"):
@@ -621,8 +644,8 @@ def convert_cycle(path, functions, module, sources, log):
                 if k is None:
                     log.append(f"place {m[1]}")
                     return m[0]
-                places_used.add(f"{name}-{f.names[k]}")
-                return f"{name}-{f.names[k]} t"
+                places_used.add(f"{front[name]}{f.names[k]}")
+                return f"{front[name]}{f.names[k]} t"
             return re.sub(r"tie\.(" + NAME + r")", one, t)
 
         first = b["text"].split("\n")[0]
@@ -643,11 +666,11 @@ def convert_cycle(path, functions, module, sources, log):
                 log.append(f"{b['name']} takes {len(params)}, and the loop has {len(slots)}: {' '.join(params)} / {' '.join(slots)}")
                 slots += ["l.MISSING"] * len(params)
             t = Text(f, {}, {}, {}, {}, log, dict(zip(params, slots)))
-            invariants.append("\n".join(b["comment"] + [f"abbrev pub {m[1]}-{name}-{new} : goal.{m[1]}-{name}-{new}", f"{d[1] or ''}{m[1]}-{name}-{new} l = {t.turn(d[3])}"]))
+            invariants.append("\n".join(b["comment"] + [f"abbrev pub {m[1]}-{front[name]}{new} : goal.{m[1]}-{front[name]}{new}", f"{d[1] or ''}{m[1]}-{front[name]}{new} l = {t.turn(d[3])}"]))
             continue
         if "need" in b:
             k = b["need"]
-            new = name + "-" + f.needs[k][1]
+            new = front[name] + f.needs[k][1]
             d = re.match(r"^(unfolding [^\n]*\n)?" + re.escape(b["name"]) + r"((?:[ \t]+[^\s(){}.;,@=]+)*)[ \t]*=(.*)$", body, re.S)
             if d[3].strip() in ("search rules", "search needs") and not d[1]:
                 continue

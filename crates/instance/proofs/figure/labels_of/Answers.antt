@@ -39,9 +39,9 @@ pub loop-left-preserved : goal.loop-left-preserved
 loop-left-preserved c =
     let l = c.loop-left in
     let first = c.take-next.ensures.1 in (
-      part_rest c.args.scope l.inv.0 first,
-      length-set l.labels c.take-next.result.first _ ∙ l.inv.1,
-      entered_more l.inv.2 l.inv.0 first c.requires.1 l.inv.1 c.first_alike.ensures,
+      part_rest c.args.scope l.invariant.0 first,
+      length-set l.labels c.take-next.result.first _ ∙ l.invariant.1,
+      entered_more l.invariant.2 l.invariant.0 first c.requires.1 l.invariant.1 c.first_alike.ensures,
     )
 
 pub returns : goal.returns

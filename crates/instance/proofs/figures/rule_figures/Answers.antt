@@ -61,7 +61,7 @@ loop-i-preserved c =
     )
 
 pub returns : goal.returns
-returns c =
+returns c people steps w =
     let e : c.loop-i.i ≡ c.args.rules = omega (arith, c.loop-i-test.false, c.loop-i.invariant.0) in
     let s = c.args in
-    subst (λ (n : ℕ). FiguresOf (kind_at s.t1) (instance_of people steps s.rules s.t1) (plan_of s.plan.now) n c.loop-i.figures) e (c.loop-i.invariant.1 people steps w)
+    subst (λ (n : ℕ). FiguresOf (kind_at s.job) (instance_of people steps s.rules s.job) (plan_of s.plan.now) n c.loop-i.figures) e (c.loop-i.invariant.1 people steps w)

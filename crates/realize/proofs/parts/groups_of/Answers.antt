@@ -1,0 +1,6 @@
+-- `realize::parts::groups_of` meets its contract. Assumes nothing.
+use Rattle.realize.proofs.Masks.{groups_mask}
+use Rattle.realize.proofs.parts.groups_of.Goals as goal
+
+pub returns : goal.returns
+returns c = let a = c.args in groups_mask a.label.now a.q a.steps c.labelled.ensures

@@ -1,0 +1,54 @@
+-- `realize::tables::reaches` meets its contract. The loop's invariant: the levels passed, from the last one up, are made. Assumes nothing.
+use mathlib.Core.Path.{◌≡◌}
+use Prim.Native.Nat.{ℕ, ◌+◌, ◌*◌, ◌-◌}
+use native.Mathlib.Omega.{arith}
+use lib.ListN.{length-replicate}
+use Rattle.bits.specs.Sizes.{label_entries}
+use Rattle.realize.proofs.Reach.{reached_none, reached_from, reached_all}
+use Rattle.realize.proofs.tables.reaches.Goals as goal
+
+pub loop-k-init : goal.loop-k-init
+loop-k-init c =
+    let a = c.args in
+    (omega arith, reached_none a.people a.class.now a.may.now ((a.levels - 0) * 12) (a.levels * 12) (omega arith) (length-replicate {A = ℕ} label_entries 0))
+
+pub overflow_sub-levels : goal.overflow_sub-levels
+overflow_sub-levels c = omega arith
+
+pub overflow_sub-levels-in-loop-k : goal.overflow_sub-levels-in-loop-k
+overflow_sub-levels-in-loop-k c = omega arith
+
+pub level_reach-requires : goal.level_reach-requires
+level_reach-requires c =
+    let l = c.loop-k in
+    let a = c.args in (
+      c.requires.0,
+      c.requires.1,
+      c.requires.2,
+      c.requires.3,
+      omega arith,
+      reached_from a.people a.class.now a.may.now ((a.levels - l.k) * 12) ((a.levels - 1 - l.k + 1) * 12) (a.levels * 12) (omega arith)
+          l.invariant.1,
+    )
+
+pub overflow_step-k : goal.overflow_step-k
+overflow_step-k c = omega arith
+
+pub loop-k-smaller : goal.loop-k-smaller
+loop-k-smaller c = omega arith
+
+pub loop-k-preserved : goal.loop-k-preserved
+loop-k-preserved c =
+    let k = c.loop-k.k in
+    let a = c.args in (
+      omega arith,
+      reached_from a.people a.class.now a.may.now ((a.levels - 1 - k) * 12) ((a.levels - (k + 1)) * 12) (a.levels * 12) (omega arith)
+          c.level_reach.ensures,
+    )
+
+pub returns : goal.returns
+returns c =
+    let a = c.args in
+    let l = c.loop-k in
+    let e : (a.levels - l.k) * 12 ≡ 0 = omega (arith, c.loop-k-test.false) in
+    reached_all a.people a.class.now a.may.now ((a.levels - l.k) * 12) (a.levels * 12) e l.invariant.1
