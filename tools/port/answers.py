@@ -164,8 +164,9 @@ class Text:
         callee = f.places[q][3]
         if len(rest) > 2 and rest[1] == "auto" and rest[2].isdigit() and f.params.get(callee):
             rest[2] = f.params[callee][int(rest[2])]
-        if len(rest) == 2 and rest[1] in ("true", "false") and re.search(r"(^|-)not-", new):
-            # the older Rattle said of a test !x what x's negation is, and today's says what x is
+        tested = re.search(r"(?:^|-)not-([\w]+)", new)
+        if len(rest) == 2 and rest[1] in ("true", "false") and tested and any(p[3] and p[3].split("::")[-1] == tested[1] for p in f.places):
+            # the older Rattle said of a test !f(..) what the negation is, and today's says what f(..) is
             self.nots.append(new)
             return f"(ap not {root}.{new}.{rest[1]})", None
         return root + "." + ".".join([new] + rest[1:]), None

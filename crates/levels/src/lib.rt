@@ -26,7 +26,7 @@ pub struct Numbers {
 
 // The arrays of a job: its counts, the number and the people of each person's class at each level, the rules
 // and those of them that name each step.
-#[derive(Drop)]
+#[derive(Clone, Copy)]
 pub struct Tables {
     pub size: Size,
     pub class: Classes,

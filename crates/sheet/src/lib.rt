@@ -20,7 +20,7 @@ mod read;
 mod tables;
 
 // The job that a sheet describes: people, steps and rules along their chains, zeros after the last.
-#[derive(Drop)]
+#[derive(Clone, Copy)]
 pub struct SheetJob {
     // The class levels, and the person as the last level.
     pub levels: usize,

@@ -29,7 +29,7 @@ marking : (c : Start) → let a = c.args in
 marking c = c.requires.4
 
 -- the sheet is no longer than a slice can be
-sheet-length : (c : Start) → length c.args.s.now < 18446744073709551616
+sheet-length : (c : lts.After-fill_job tie.the-claims reads.Pre reads.Post) → length c.args.s.now < 18446744073709551616
 sheet-length c = omega arith
 
 pub fill_job-job-requires : goal.fill_job-job-requires
@@ -67,7 +67,7 @@ bounds-people-i c =
 
 pub overflow_cast-people : goal.overflow_cast-people
 overflow_cast-people c =
-    omega (arith, (filled c.before.before.before.before.before.before.before.before.before.before.before.before.before.before.before).people_listed.inside c.tag_clash-i.result (person-found c.before.before.before.before c.in-1.is), sheet-length c.before.before.before.before.before.before.before.before.before.before.before.before.before.before.before.before.before)
+    omega (arith, (filled c.before.before.before.before.before.before.before.before.before.before.before.before.before.before.before).people_listed.inside c.tag_clash-i.result (person-found c.before.before.before.before c.in-1.is), sheet-length c.before.before.before.before.before.before.before.before.before.before.before.before.before.before.before)
 
 pub bounds-steps-j : goal.bounds-steps-j
 bounds-steps-j c =
@@ -75,7 +75,7 @@ bounds-steps-j c =
 
 pub overflow_cast-steps : goal.overflow_cast-steps
 overflow_cast-steps c =
-    omega (arith, (filled c.before.before.before.before.before.before.before.before.before.before.before.before.before.before.before).steps_listed.inside c.tag_clash-j.result (step-found c.before.before.before.before c.in-2.is).1, sheet-length c.before.before.before.before.before.before.before.before.before.before.before.before.before.before.before.before.before)
+    omega (arith, (filled c.before.before.before.before.before.before.before.before.before.before.before.before.before.before.before).steps_listed.inside c.tag_clash-j.result (step-found c.before.before.before.before c.in-2.is).1, sheet-length c.before.before.before.before.before.before.before.before.before.before.before.before.before.before.before)
 
 pub bounds-people-k : goal.bounds-people-k
 bounds-people-k c =
@@ -83,7 +83,7 @@ bounds-people-k c =
 
 pub overflow_cast-people-in-3 : goal.overflow_cast-people-in-3
 overflow_cast-people-in-3 c =
-    omega (arith, (filled c.before.before.before.before.before.before.before.before.before.before.before.before.before.before.before).people_listed.inside c.class_clash-k.result (class-found c.before.before.before.before c.in-3.is).2, sheet-length c.before.before.before.before.before.before.before.before.before.before.before.before.before.before.before.before.before)
+    omega (arith, (filled c.before.before.before.before.before.before.before.before.before.before.before.before.before.before.before).people_listed.inside c.class_clash-k.result (class-found c.before.before.before.before c.in-3.is).2, sheet-length c.before.before.before.before.before.before.before.before.before.before.before.before.before.before.before)
 
 pub returns-in-1 : goal.returns-in-1
 returns-in-1 c =

@@ -1,0 +1,57 @@
+-- `search::limits::classes_of` meets its contract. The loop's invariant: the classes of the steps passed are found. Assumes nothing.
+use mathlib.Core.Path.{sym, ◌∙◌}
+use Prim.Native.Nat.{◌-◌}
+use native.Mathlib.Omega.{arith}
+use borrow.Author.Tests.{not-true}
+use Rattle.search.proofs.LowerLimits.{gathering_none, gathering_past, gathering_more, gathering_all}
+use mathlib.Core.Bool.{not}
+use mathlib.Core.Path.{ap}
+use Rattle.search.proofs.limits.classes_of.Goals as goal
+
+pub loop-s-init : goal.loop-s-init
+loop-s-init c = (omega arith, gathering_none c.args.reach.now c.args.q c.args.scope)
+
+pub has-requires : goal.has-requires
+has-requires c = omega arith
+
+pub overflow_step-s : goal.overflow_step-s
+overflow_step-s c = omega arith
+
+pub loop-s-smaller-then-not-has : goal.loop-s-smaller-then-not-has
+loop-s-smaller-then-not-has c = omega arith
+
+pub loop-s-preserved-then-not-has : goal.loop-s-preserved-then-not-has
+loop-s-preserved-then-not-has c =
+    let a = c.args in
+    let l = c.loop-s in
+    (omega arith, gathering_past a.reach.now a.q a.scope l.s l.all (sym c.has.ensures ∙ not-true c.has.result (ap not c.if-not-has.true)) l.invariant.1)
+
+pub overflow_mul-all : goal.overflow_mul-all
+overflow_mul-all c = omega arith
+
+pub overflow_add-all : goal.overflow_add-all
+overflow_add-all c = omega arith
+
+pub offset_bounds-reach-q : goal.offset_bounds-reach-q
+offset_bounds-reach-q c = omega arith
+
+pub bounds-reach-q : goal.bounds-reach-q
+bounds-reach-q c = omega arith
+
+pub overflow_step-s-in-loop-s : goal.overflow_step-s-in-loop-s
+overflow_step-s-in-loop-s c = omega arith
+
+pub loop-s-smaller : goal.loop-s-smaller
+loop-s-smaller c = omega arith
+
+pub loop-s-preserved : goal.loop-s-preserved
+loop-s-preserved c =
+    let a = c.args in
+    let l = c.loop-s in
+    (omega arith, gathering_more a.reach.now a.q a.scope l.s l.all l.invariant.1)
+
+pub returns : goal.returns
+returns c =
+    let a = c.args in
+    let l = c.loop-s in
+    gathering_all a.reach.now a.q a.scope a.steps l.s l.all c.loop-s-test.false l.invariant.1

@@ -1,0 +1,43 @@
+-- `search::place::place` meets its contract: the levels passed have the grown labels. Assumes nothing.
+use Prim.Native.Nat.{◌-◌}
+use native.Mathlib.Omega.{arith}
+use Rattle.search.proofs.Growth.{growing_none, growing_more, growing_all}
+use Rattle.search.proofs.place.place.Goals as goal
+
+pub loop-q-init : goal.loop-q-init
+loop-q-init c = (omega arith, growing_none c.args.s c.args.t c.args.d c.args.label.now c.requires.sized)
+
+pub group-g-requires : goal.group-g-requires
+group-g-requires c =
+    let p = c.requires in
+    (omega (arith, p.few, c.loop-q-test.true), p.new, p.old, c.loop-q.invariant.1.sized)
+
+pub overflow_mul-label : goal.overflow_mul-label
+overflow_mul-label c = omega (arith, c.requires.few, c.loop-q-test.true)
+
+pub overflow_add-label : goal.overflow_add-label
+overflow_add-label c = omega (arith, c.requires.few, c.requires.new, c.loop-q-test.true)
+
+pub bounds-label-q : goal.bounds-label-q
+bounds-label-q c = omega (arith, c.requires.few, c.requires.new, c.loop-q-test.true)
+
+pub overflow_step-q : goal.overflow_step-q
+overflow_step-q c = omega (arith, c.requires.few, c.loop-q-test.true)
+
+pub loop-q-smaller : goal.loop-q-smaller
+loop-q-smaller c = omega (arith, c.loop-q-test.true)
+
+pub loop-q-preserved : goal.loop-q-preserved
+loop-q-preserved c =
+    let a = c.args in
+    let p = c.requires in
+    let l = c.loop-q in (
+      omega (arith, c.loop-q-test.true),
+      growing_more a.s a.t a.d l.q a.label.now l.label c.group-g.result p.new p.old
+          (omega (arith, p.few, c.loop-q-test.true)) l.invariant.1 c.group-g.ensures,
+    )
+
+pub returns : goal.returns
+returns c =
+    let a = c.args in
+    growing_all a.levels a.s a.t a.d c.loop-q.q a.label.now c.loop-q.label c.loop-q.invariant.1 c.loop-q-test.false

@@ -1,0 +1,11 @@
+use Prim.Native.Nat.{◌-◌, ◌<◌}
+use lib.ListN.{length}
+use mathlib.Core.Path.{◌≡◌}
+use Rattle.bits.specs.Sizes.{label_entries}
+use Rattle.search.proofs.ways.leave.Given as goal
+
+abbrev pub invariant-loop-left : goal.invariant-loop-left
+invariant-loop-left l = (l.left < 4096) × (length l.free ≡ label_entries)
+
+abbrev pub decreases-loop-left : goal.decreases-loop-left
+decreases-loop-left l = l.left
