@@ -164,8 +164,13 @@ class Text:
         callee = f.places[q][3]
         if len(rest) > 2 and rest[1] == "auto" and rest[2].isdigit() and f.params.get(callee):
             rest[2] = f.params[callee][int(rest[2])]
+        if len(rest) > 2 and rest[1] == "new" and rest[2] in ("0", "1") and f.params.get(callee):
+            n = 0
+            while 2 + n < len(rest) and rest[2 + n] == "1":
+                n += 1
+            rest[2 : 2 + n + (rest[2 + n : 3 + n] == ["0"])] = [f.params[callee][n]]
         tested = re.search(r"(?:^|-)not-([\w]+)", new)
-        if len(rest) == 2 and rest[1] in ("true", "false") and tested and any(p[3] and p[3].split("::")[-1] == tested[1] for p in f.places):
+        if len(rest) == 2 and rest[1] in ("true", "false") and tested and not re.search(r"!(?:\w+::)*" + tested[1] + r"\.", f.source):
             # the older Rattle said of a test !f(..) what the negation is, and today's says what f(..) is
             self.nots.append(new)
             return f"(ap not {root}.{new}.{rest[1]})", None
@@ -778,6 +783,17 @@ def parameters(crate, name):
     return []
 
 
+def source_of(crate, name):
+    """The text of a function."""
+    for folder, _, files in os.walk(os.path.join(TOP, "crates", crate, "src")):
+        for n in files:
+            text = open(os.path.join(folder, n), encoding="utf-8").read()
+            m = re.search(r"\bfn " + name + r"\b.*?\n}\n", text, re.S)
+            if m:
+                return m[0]
+    return ""
+
+
 def pruned(text):
     """The file without the names that it imports and does not use."""
     m = re.search(r"\n\n(?!use )", text)
@@ -824,6 +840,7 @@ def main():
             m = re.match(r"Rattle-" + crate + r"-proofs\.(.*\+[^.]*)\.Lts-(.*)$", key)
             if m:
                 cycles.setdefault(m[1], {})[m[2]] = Function(d)
+                cycles[m[1]][m[2]].source = source_of(crate, m[2])
         for name, functions in cycles.items():
             path = os.path.join(folder, "proofs", *name.split("."), "Proof.antt")
             if os.path.exists(path):
@@ -843,7 +860,9 @@ def main():
                 continue
             log = []
             try:
-                convert(path, Function(d), f"Rattle.{crate}.proofs.{m[1]}", log)
+                f = Function(d)
+                f.source = source_of(crate, m[1].split(".")[-1])
+                convert(path, f, f"Rattle.{crate}.proofs.{m[1]}", log)
             except Exception as e:
                 print(f"{crate}: {m[1]}: {type(e).__name__} {e}")
                 raise

@@ -9,8 +9,6 @@ use Rattle.bits.specs.Sizes.{class_entries}
 use Rattle.bits.proofs.Masks.{taken_below}
 use Rattle.realize.proofs.Rows.{group_sized, heads_few}
 use Rattle.realize.proofs.Fill.{class_given, sent_none, sent_next, filled_last, filled_none, filled_sent}
-use mathlib.Core.Bool.{not}
-use mathlib.Core.Path.{ap}
 use Rattle.realize.proofs.plan.+fill.Goals as goal
 use Rattle.realize.proofs.plan.+fill.Goals.{After-take-next}
 

@@ -1,0 +1,14 @@
+use mathlib.Core.Bool.{not}
+use Prim.Native.Nat.{◌-◌}
+use borrow.Author.Rules.{rules}
+use Rattle.bits.proofs.Scan.{Passed}
+use Rattle.workflow.specs.Problem.{met}
+use Rattle.workflow.specs.First.{plan_of}
+use Rattle.instance.specs.Figures.{ForInstances}
+use Rattle.exhaustive.proofs.valid.first_broken.Given as goal
+
+abbrev pub invariant-loop-i : goal.invariant-loop-i
+invariant-loop-i l = ForInstances l.rules l.job (λ j. Passed l.rules (λ k. not (met j (j.rule k) (plan_of l.plan))) l.i)
+
+abbrev pub decreases-loop-i : goal.decreases-loop-i
+decreases-loop-i l = l.rules - l.i
