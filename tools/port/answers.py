@@ -170,7 +170,9 @@ class Text:
                 n += 1
             rest[2 : 2 + n + (rest[2 + n : 3 + n] == ["0"])] = [f.params[callee][n]]
         tested = re.search(r"(?:^|-)not-([\w]+)", new)
-        if len(rest) == 2 and rest[1] in ("true", "false") and tested and not re.search(r"!(?:\w+::)*" + tested[1] + r"\.", f.source):
+        denied = tested and not re.search(r"!(?:\w+::)*" + tested[1] + r"\.", f.source)
+        denied = denied or new.endswith("-test") and re.search(r"while !(?:\w+::)*\w+\(", f.source)
+        if len(rest) == 2 and rest[1] in ("true", "false") and denied:
             # the older Rattle said of a test !f(..) what the negation is, and today's says what f(..) is
             self.nots.append(new)
             return f"(ap not {root}.{new}.{rest[1]})", None

@@ -39,7 +39,7 @@ next_plan-requires c =
 invalid : (c : In-loop-job) → let a = c.args in
     Valid (instance_of a.people a.steps a.rules a.job) (may_of a.job) (plan_of c.loop-job.plan) → ⊥
 invalid c =
-    says_false c.is_valid.result _ (c.is_valid.ensures c.args.people c.requires c.loop-job.invariant.within) (not-true _ c.loop-job-test.true)
+    says_false c.is_valid.result _ (c.is_valid.ensures c.args.people c.requires c.loop-job.invariant.within) (not-true _ (ap not c.loop-job-test.true))
 
 -- what is known of the next plan, by the answer
 told : (c : lts.After-next_plan tie.the-claims reads.Pre reads.Post goal.the-invariant-loop-job goal.the-decreases-loop-job) (b : Bool) → c.next_plan.result ≡ b → let a = c.args in
@@ -68,4 +68,4 @@ loop-job-preserved c =
 pub returns : goal.returns
 returns c =
     trying_found c.loop-job.invariant
-    (says_true c.is_valid.result _ (c.is_valid.ensures c.args.people c.requires c.loop-job.invariant.within) (not-false _ c.loop-job-test.false))
+    (says_true c.is_valid.result _ (c.is_valid.ensures c.args.people c.requires c.loop-job.invariant.within) (not-false _ (ap not c.loop-job-test.false)))
