@@ -11,14 +11,14 @@ use Rattle.tables.proofs.enter_class.Goals as goal
 use Rattle.tables.proofs.enter_class.Goals.{Else-q-p}
 
 pub overflow_cast-class : goal.overflow_cast-class
-overflow_cast-class c = omega (arith, met_few _ _ c.args.met c.requires.1.1)
+overflow_cast-class c = omega (arith, met_few _ _ c.args.met c.requires.top_bound.1)
 
 pub returns-then-q-p : goal.returns-then-q-p
 returns-then-q-p c =
     let f = c.first_use-q in
     let e : f.result ≡ c.args.p = omega arith in
     let u = sym f.ensures.0 ∙ e in
-    (sym (eq-eqb _ _ u), new_entered _ _ _ _ _ c.requires.1.2 c.requires.0.1 c.requires.0.2 c.requires.1.0 u _ c.requires.1.1, f.ensures.1)
+    (sym (eq-eqb _ _ u), new_entered _ _ _ _ _ c.requires.top_bound.2 c.requires.words_len.1 c.requires.words_len.2 c.requires.top_bound.0 u _ c.requires.top_bound.1, f.ensures.1)
 
 -- the first use stands before a person whose class is not new
 earlier : (c : Else-q-p) → c.first_use-q.result < c.args.p
@@ -35,4 +35,4 @@ pub returns : goal.returns
 returns c =
     let f = c.first_use-q in
     let d : first_use c.args.people (word_of c.args.words.now) c.args.p ≡ c.args.p → ⊥ = λ e. c.if-q-p.false (f.ensures.0 ∙ e) in
-    (sym (ne_eqb _ _ d), old_entered _ _ _ _ _ c.requires.1.2 c.requires.0.1 c.requires.0.2 c.requires.1.0 d _ f.ensures.0, f.ensures.1)
+    (sym (ne_eqb _ _ d), old_entered _ _ _ _ _ c.requires.top_bound.2 c.requires.words_len.1 c.requires.words_len.2 c.requires.top_bound.0 d _ f.ensures.0, f.ensures.1)

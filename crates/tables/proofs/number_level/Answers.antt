@@ -1,12 +1,12 @@
 -- The invariant: the classes of the people passed have their numbers, and so many are met. Assumes nothing.
 use native.Mathlib.Omega.{arith}
 use Prim.Native.Nat.{ℕ, ◌-◌}
-use mathlib.Core.Logic.{⊎_elim}
 use mathlib.Core.Path.{◌≡◌, subst, ◌∙◌}
 use Rattle.bits.proofs.SlotLaws.{firsts_none}
 use Rattle.tables.specs.Arrays.{LevelNumbered}
 use Rattle.tables.proofs.Numbers.{met_none, met_few, one_more, as_many, level_none, level_before, level_more}
 use Rattle.tables.proofs.number_level.Goals as goal
+use Rattle.tables.proofs.number_level.Goals.{then-enter_class, else-enter_class}
 
 pub loop-p-init : goal.loop-p-init
 loop-p-init c = (omega arith, met_none _, firsts_none _, level_none _ _ _ _ c.requires.3)
@@ -15,7 +15,7 @@ pub enter_class-requires : goal.enter_class-requires
 enter_class-requires c =
     let i = c.loop-p.invariant in
     let s = c.requires in
-    ((s.0, c.loop-p-test.true, s.1, i.2), (s.2, i.1, level_before i.3))
+    record { words_len = (s.0, c.loop-p-test.true, s.1, i.2); top_bound = (s.2, i.1, level_before i.3) }
 
 pub overflow_add-met : goal.overflow_add-met
 overflow_add-met c =
@@ -33,7 +33,10 @@ loop-p-preserved c =
     let i = c.loop-p.invariant in
     let e = c.enter_class.ensures in (
       omega (arith, l),
-      ⊎_elim (λ w. w.1 ∙ one_more _ _ _ _ l i.1 _ e.0 w.0.taken) (λ w. w.1 ∙ as_many _ _ _ _ l i.1 _ e.0 w.0.left) c.if-enter_class.branch,
+      elim c.if-enter_class.branch [
+        then-enter_class w ↦ w.met-is ∙ one_more _ _ _ _ l i.1 _ e.0 w.if-enter_class.true
+        | else-enter_class w ↦ w.met-is ∙ as_many _ _ _ _ l i.1 _ e.0 w.if-enter_class.false
+      ],
       e.2,
       level_more i.3 e.1,
     )

@@ -1,12 +1,11 @@
 -- The invariant: those of the rules passed that can be broken are packed. Assumes nothing.
-use mathlib.Core.Logic.{⊎_elim}
 use mathlib.Core.Path.{refl, sym, ◌∙◌}
 use Prim.Native.Nat.{◌-◌, ◌<◌}
 use native.Mathlib.Omega.{arith}
 use borrow.Author.Tests.{not-true, not-false}
 use Rattle.tables.proofs.Same.{packed_none, packed_room, packed_out, packed_more, packed_as, packed_all}
 use Rattle.tables.proofs.packed.Goals as goal
-use Rattle.tables.proofs.packed.Goals.{In-loop-i}
+use Rattle.tables.proofs.packed.Goals.{In-loop-i, then-can_break, else-can_break}
 
 pub loop-i-init : goal.loop-i-init
 loop-i-init c = (packed_none _ _ _ _ _ _ refl, omega arith)
@@ -75,13 +74,13 @@ loop-i-smaller c = omega (arith, c.loop-i-test.true)
 pub loop-i-preserved : goal.loop-i-preserved
 loop-i-preserved c =
     let v = c.loop-i in (
-      ⊎_elim
-          (λ w.
+      elim c.if-can_break.branch [
+        then-can_break w ↦
           packed_as _ _ _ _ _
-          (packed_more _ _ _ _ _ _ _ _ v.invariant.0 w.5.result (few c.before.before.before.before.before.before.before.before.before) (not-true _ (sym c.«can-break».ensures ∙ w.0.taken)) w.5.ensures) w.6 w.7)
-          (λ w.
-          packed_as _ _ _ _ _ (packed_out _ _ _ _ _ _ _ _ v.invariant.0 (not-false _ (sym c.«can-break».ensures ∙ w.0.left))) w.1 w.2)
-          c.if-can_break.branch,
+          (packed_more _ _ _ _ _ _ _ _ v.invariant.0 w.packed_rule.result (few c.before.before.before.before.before.before.before.before.before) (not-true _ (sym c.can_break.ensures ∙ w.if-can_break.true)) w.packed_rule.ensures) w.rule-is w.count-is
+        | else-can_break w ↦
+          packed_as _ _ _ _ _ (packed_out _ _ _ _ _ _ _ _ v.invariant.0 (not-false _ (sym c.can_break.ensures ∙ w.if-can_break.false))) w.rule-is w.count-is
+      ],
       omega (arith, c.loop-i-test.true),
     )
 
