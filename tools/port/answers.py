@@ -378,6 +378,15 @@ def binders(segment):
     return found
 
 
+def whole_names(text, field):
+    """The text with no let for a term that ends in a field of which today's names are others."""
+    while True:
+        d = re.search(r"let (" + NAME + r") = ((?:" + NAME + r"|\([^()]*\))(?:\.[\w-]+)*\." + field + r"(?:\.0)?) in\s*", text)
+        if not d:
+            return text
+        text = text[: d.start()] + re.sub(r"(?<![\w.-])" + re.escape(d[1]) + r"(?=\.)", lambda _: d[2], text[d.end():])
+
+
 def convert(path, f, module, log):
     text = open(path, encoding="utf-8").read()
     for old, new in f.args.items():
@@ -392,12 +401,16 @@ def convert(path, f, module, log):
             lambda m: (m[1] or "") + "." + now, text, flags=re.M)
     head, blocks = declarations(text)
     log_nots.clear()
+    for b in blocks:
+        parts = re.split(r"\n(?=" + re.escape(b["name"]) + r"(?:\s|$))", "\n".join(b["lines"]))
+        b["lines"] = "\n".join(whole_names(part, "given") for part in parts).split("\n")
     comments = [l for l in head if l.startswith("--")]
     uses = [l for l in head if l.startswith("use ") or (l.startswith("  ") and l.strip())]
     uses = "\n".join(uses)
     uses = "\n".join(u for u in re.split(r"\n(?=use )", uses) if not re.search(r"\.(Statement\.\{statement\}|Tie as tie)$", u.strip()))
     goals, used = {}, {}
     invariants, answers, renamed, results, helpers = [], [], {}, {}, {}
+    inlines = {}
     keys = {}
     for k, (o, n) in enumerate(f.needs):
         keys.setdefault(goal_key(o), k)
@@ -485,6 +498,21 @@ def convert(path, f, module, log):
             place = f.place(f.asked[k][0])
             view = place is not None and f.typed[place]
             t = Text(f, {var: -1 - place if view else place} if place is not None else {}, helpers, results, renamed, log)
+            term, lets, seen, again = d[3], "", [], True
+            while again:
+                again = False
+                for h, (pt, ty, pl, others, body_of) in inlines.items():
+                    pattern = r"\(" + re.escape(h) + r" (?:[^\s()]+|\((?:[^()]|\([^()]*\))*\)[\w.-]*)\)(?=[\s.),;]|$)|(?<![\w-])" + re.escape(h) + r" (?:[^\s(),]+|\((?:[^()]|\([^()]*\))*\)[\w.-]*)"
+                    if re.search(pattern, term + lets):
+                        term, lets = re.sub(pattern, h, term), re.sub(pattern, h, lets)
+                        again = True
+                        if h not in seen:
+                            seen.append(h)
+                            lam = "λ " + " ".join(others) + ". " if others else ""
+                            ty2 = re.sub(r"(?<![\w.-])" + re.escape(pt) + r"(?=[.\s),;]|$)", var, ty) if pt else ty
+                            bo2 = re.sub(r"(?<![\w.-])" + re.escape(pl) + r"(?=[.\s),;]|$)", var, body_of)
+                            lets = f"\n    let {h} : {ty2} = {lam}{bo2} in" + lets
+            d = {1: d[1], 3: lets + ("\n    " if lets and not term.startswith("\n") else "") + term}
             answers.append("\n".join(b["comment"] + [f"pub {new} : goal.{new}", f"{d[1] or ''}{new} {var}{more} ={t.turn(d[3])}"]))
             continue
         # a lemma of the file's own
@@ -544,6 +572,14 @@ def convert(path, f, module, log):
         if k is not None and place_type(result) is not None:
             # a name for a place further up: what is known there is known at the root, so no such name is needed
             results[b["name"]] = place_type(result)
+            continue
+        if any(k is not None and f.arms[k] for k in order):
+            # said anew, with a let, in each answer that wants it
+            segments, bound = split_type(typ)
+            pname = [n for q in segments for n, ty in binders(q) if place_type(ty) is not None]
+            rest_of = [q for q in segments if not any(place_type(ty) is not None for n, ty in binders(q))]
+            inlines[b["name"]] = (pname[0] if pname else None, " → ".join(rest_of + [bound]), next(v for v in lhs if env2.get(v) is not None),
+                [v for v in lhs if env2.get(v) is None], clauses[head_len:].strip())
             continue
         if any(k is not None for k in order):
             helpers[b["name"]] = [k for k in order if k is not None]
@@ -817,6 +853,10 @@ def pruned(text):
             if not name:
                 continue
             op = name.replace("◌", "")
+            if name == "[]":
+                if "[]" in body:
+                    kept.append(item)
+                continue
             if "◌" in name:
                 if op in words or (op in ("∙", "∷") and op in body) or op in body:
                     kept.append(item)

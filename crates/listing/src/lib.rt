@@ -5,68 +5,77 @@ ghost use Rattle.std.specs.Prelude.{◌≡◌, ◌≤◌, length};
 ghost use Rattle.instance.specs.Figures.{Staffed};
 
 use bits::sizes::{Plan, RuleBytes};
-use libc::STDOUT_FILENO;
 use sheet::SheetJob;
+use std::io;
+
+pub mod input;
 
 // Words as they are.
-pub fn text(words: &[u8]) {
-    io::write_all(STDOUT_FILENO, words);
+pub fn text(rt: &impl Print, words: &[u8]) -> io::Result<()> {
+    rt.write_all(words)
 }
 
 // A space and a number in decimal.
-pub fn figure(number: usize) {
-    text(b" ");
-    io::print_decimal(STDOUT_FILENO, number as u64);
+pub fn figure(rt: &impl Print, number: usize) -> io::Result<()> {
+    text(rt, b" ")?;
+    rt.print(number)
 }
 
 // The line of a refusal, of the number that a call returns.
-pub fn write_refusal(number: u32) {
-    text(b"REFUSED");
-    figure((number / 256) as usize);
-    text(b" CARD");
-    figure((number % 256) as usize);
-    text(b"\n");
+pub fn write_refusal(rt: &impl Print, number: u32) -> io::Result<()> {
+    text(rt, b"REFUSED")?;
+    figure(rt, (number / 256) as usize)?;
+    text(rt, b" CARD")?;
+    figure(rt, (number % 256) as usize)?;
+    text(rt, b"\n")
 }
 
 // A line for a step: its tag and its person's.
-fn write_step(step_tag: u32, person_tag: u32) {
-    io::print_decimal(STDOUT_FILENO, step_tag as u64);
-    figure(person_tag as usize);
-    text(b"\n");
+fn write_step(rt: &impl Print, step_tag: u32, person_tag: u32) -> io::Result<()> {
+    rt.print(step_tag)?;
+    figure(rt, person_tag as usize)?;
+    text(rt, b"\n")
 }
 
 // The number of steps, and a line for each.
-pub fn write_plan(job: SheetJob, steps: usize, plan: &Plan)
+pub fn write_plan(rt: &impl Print, job: SheetJob, steps: usize, plan: &Plan) -> io::Result<()>
     requires { (steps ≤ 12) × (length plan.now ≡ 12) × Staffed steps plan.now }
 {
     let step_tag = job.step_tag;
     let person_tag = job.person_tag;
-    text(b"PLAN");
-    figure(steps);
-    text(b"\n");
+    text(rt, b"PLAN")?;
+    figure(rt, steps)?;
+    text(rt, b"\n")?;
     for s in 0..steps {
-        write_step(step_tag[s], person_tag[plan[s] as usize]);
+        write_step(rt, step_tag[s], person_tag[plan[s] as usize])?;
     }
+    Ok(())
 }
 
 // A line for a rule: "`RULE`, its kind, level, limit and count"; for kind 5 "the largest number held by one class".
-fn write_rule(kind: u8, level: u8, limit: u8, last: u8) {
-    text(b"RULE");
-    figure(kind as usize);
-    figure(level as usize);
-    figure(limit as usize);
-    figure(last as usize);
-    text(b"\n");
+fn write_rule(rt: &impl Print, kind: u8, level: u8, limit: u8, last: u8) -> io::Result<()> {
+    text(rt, b"RULE")?;
+    figure(rt, kind as usize)?;
+    figure(rt, level as usize)?;
+    figure(rt, limit as usize)?;
+    figure(rt, last as usize)?;
+    text(rt, b"\n")
 }
 
 // A line for each rule: kind, level and limit as its card has them, and its figure for the plan.
-pub fn write_rules(job: SheetJob, rules: usize, figures: &RuleBytes)
+pub fn write_rules(
+    rt: &impl Print,
+    job: SheetJob,
+    rules: usize,
+    figures: &RuleBytes,
+) -> io::Result<()>
     requires { (rules ≤ 64) × (length figures.now ≡ 64) }
 {
     let kind = job.rule_kind;
     let level = job.rule_level;
     let limit = job.rule_limit;
     for i in 0..rules {
-        write_rule(kind[i], level[i], limit[i], figures[i]);
+        write_rule(rt, kind[i], level[i], limit[i], figures[i])?;
     }
+    Ok(())
 }

@@ -11,11 +11,12 @@ use bits::sizes::MOST_BYTES;
 use card::refusal::PLAN_FAULT;
 use crew::plan_job;
 use instance::figures::rule_figures;
-use libc::STDIN_FILENO;
+use listing::input::read_full;
 use listing::{figure, text, write_plan, write_refusal, write_rules};
 use remaining::read_job;
 use resiliency::call::spare;
 use sheet::Reading;
+use std::io;
 
 const CAP: u32 = 2;
 
@@ -34,33 +35,34 @@ fn long_at(bytes: &[u8], at: usize) -> usize
 }
 
 // The group whose absence breaks the job.
-fn write_away(bytes: &[u8; SPARE], members: usize)
+fn write_away(rt: &impl Print, bytes: &[u8; SPARE], members: usize) -> io::Result<()>
     requires { (length bytes.now ≡ 16) × (members ≤ 3) }
 {
-    text(b"AWAY");
+    text(rt, b"AWAY")?;
     for k in 0..members {
-        figure(long_at(bytes, 4 * k + 4));
+        figure(rt, long_at(bytes, 4 * k + 4))?;
     }
-    text(b"\n");
+    text(rt, b"\n")
 }
 
 // The count and the cap, and the group where the count is below the cap.
-fn write_spare(bytes: &[u8; SPARE])
+fn write_spare(rt: &impl Print, bytes: &[u8; SPARE]) -> io::Result<()>
     requires { length bytes.now ≡ 16 }
 {
     let count = byte_at(bytes, 0);
-    text(b"SPARE");
-    figure(count);
-    text(b" OF");
-    figure(CAP as usize);
-    text(b"\n");
+    text(rt, b"SPARE")?;
+    figure(rt, count)?;
+    text(rt, b" OF")?;
+    figure(rt, CAP as usize)?;
+    text(rt, b"\n")?;
     if count < CAP as usize {
-        write_away(bytes, count + 1);
+        write_away(rt, bytes, count + 1)?;
     }
+    Ok(())
 }
 
 // The answer to a sheet: a refusal, or the plan, the spare count and the figure of each rule for the plan.
-fn write_answer(sheet: &[u8]) {
+fn write_answer(rt: &impl Print, sheet: &[u8]) -> io::Result<()> {
     let read = read_job(sheet);
     let reading = read.reading;
     let Reading::Readable {
@@ -69,31 +71,28 @@ fn write_answer(sheet: &[u8]) {
         rules,
     } = reading
     else {
-        write_refusal(number(reading));
-        return;
+        return write_refusal(rt, number(reading));
     };
     let job = read.job;
     let planned = plan_job(job, people, steps, rules);
     if !planned.found {
-        write_refusal(returned(PLAN_FAULT, 0));
-        return;
+        return write_refusal(rt, returned(PLAN_FAULT, 0));
     }
     let plan = planned.plan;
     let mut away = [0u8; SPARE];
     let spared = spare(sheet, &mut away, CAP);
     if spared != 0 {
-        write_refusal(spared);
-        return;
+        return write_refusal(rt, spared);
     }
-    write_plan(job, steps, &plan);
-    write_spare(&away);
+    write_plan(rt, job, steps, &plan)?;
+    write_spare(rt, &away)?;
     let figures = rule_figures(job, rules, &plan);
-    write_rules(job, rules, &figures);
+    write_rules(rt, job, rules, &figures)
 }
 
-fn main() {
+fn main(rt: HostRuntime) -> io::Result<()> {
     // One byte more than the longest sheet, so that a longer input has a length that is refused.
     let mut input = [0u8; MOST_BYTES + 1];
-    let n = io::read_full(STDIN_FILENO, &mut input);
-    write_answer(&input[..n]);
+    let n = read_full(&mut rt.reader(), &mut input)?;
+    write_answer(&rt, &input[..n])
 }

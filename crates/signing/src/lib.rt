@@ -12,7 +12,7 @@ pub mod sign;
 
 // The job under work, as it lies in the host's memory. All zero: never opened. It has no padding, and refers to nothing.
 #[repr(C)]
-#[derive(Drop)]
+#[derive(Clone, Copy)]
 pub struct JobState {
     // Refused signings since the last opening that succeeded.
     pub refusals: u32,

@@ -4,72 +4,76 @@
 
 ghost use Rattle.std.specs.Prelude.{◌<◌, ◌≤◌, length};
 
-use libc::{STDIN_FILENO, STDOUT_FILENO};
+use listing::input::read_full;
+use listing::{figure, text};
 use sheet::Reading;
+use std::io;
+use std::io::Read;
 
 // A number that no run uses up: a loop that reads has to end by itself.
 const MOST_RECORDS: u32 = 1000000;
 
 // Fills the first `n` bytes, and says whether the input had them all.
-fn filled(out: &mut [u8], n: usize) -> bool
+fn filled<R: Read>(from: &mut R, out: &mut [u8], n: usize) -> io::Result<bool>
     requires { n ≤ length out.old }
 {
-    io::read_full(STDIN_FILENO, &mut out[..n]) == n
+    let read = read_full(from, &mut out[..n])?;
+    Ok(read == n)
 }
 
-// A space and a number in decimal.
-fn write_figure(figure: usize) {
-    io::write_all(STDOUT_FILENO, b" ");
-    io::print_decimal(STDOUT_FILENO, figure as u64);
+fn write_counts(rt: &impl Print, people: usize, steps: usize, rules: usize) -> io::Result<()> {
+    text(rt, b": READ")?;
+    figure(rt, people)?;
+    figure(rt, steps)?;
+    figure(rt, rules)
 }
 
-fn write_counts(people: usize, steps: usize, rules: usize) {
-    io::write_all(STDOUT_FILENO, b": READ");
-    write_figure(people);
-    write_figure(steps);
-    write_figure(rules);
+fn write_refusal(rt: &impl Print, refusal: u32, card: usize) -> io::Result<()> {
+    text(rt, b": REFUSED")?;
+    figure(rt, refusal as usize)?;
+    text(rt, b" CARD")?;
+    figure(rt, card)
 }
 
-fn write_refusal(refusal: u32, card: usize) {
-    io::write_all(STDOUT_FILENO, b": REFUSED");
-    write_figure(refusal as usize);
-    io::write_all(STDOUT_FILENO, b" CARD");
-    write_figure(card);
-}
-
-fn write_reading(reading: Reading) {
+fn write_reading(rt: &impl Print, reading: Reading) -> io::Result<()> {
     match reading {
         Reading::Readable {
             people,
             steps,
             rules,
-        } => write_counts(people, steps, rules),
-        Reading::Refused { refusal, card } => write_refusal(refusal, card),
+        } => write_counts(rt, people, steps, rules),
+        Reading::Refused { refusal, card } => write_refusal(rt, refusal, card),
     }
 }
 
-// Writes the answer to a sheet, and says whether the line was taken.
-fn write_answer(name: &[u8], bytes: &[u8]) -> bool {
+// Writes the answer to a sheet.
+fn write_answer(rt: &impl Print, name: &[u8], bytes: &[u8]) -> io::Result<()> {
     let answer = remaining::read_job(bytes);
     let reading = answer.reading;
-    io::write_all(STDOUT_FILENO, name);
-    write_reading(reading);
-    io::write_all(STDOUT_FILENO, b"\n")
+    text(rt, name)?;
+    write_reading(rt, reading)?;
+    text(rt, b"\n")
 }
 
 // Reads a name and a sheet of these lengths, and answers them; says whether there may be more.
-fn answer_record(letters: usize, size: usize) -> bool
+fn answer_record<R: Read>(
+    rt: &impl Print,
+    from: &mut R,
+    letters: usize,
+    size: usize,
+) -> io::Result<bool>
     requires { (letters < 256) × (size < 65536) }
 {
     let mut name = [0u8; 255];
-    if !filled(&mut name, letters) {
-        return false;
+    if !filled(from, &mut name, letters)? {
+        return Ok(false);
     }
     let mut bytes = [0u8; 65535];
-    if !filled(&mut bytes, size) {
-        return false;
+    if !filled(from, &mut bytes, size)? {
+        return Ok(false);
     }
-    write_answer(&name[..letters], &bytes[..size])
+    write_answer(rt, &name[..letters], &bytes[..size])?;
+    Ok(true)
 }
 
 fn wide(byte: u8) -> usize
@@ -79,17 +83,19 @@ fn wide(byte: u8) -> usize
 }
 
 // Reads and answers one record; says whether there may be more.
-fn next_record() -> bool {
+fn next_record<R: Read>(rt: &impl Print, from: &mut R) -> io::Result<bool> {
     let mut head = [0u8; 3];
-    if !filled(&mut head, 3) {
-        return false;
+    if !filled(from, &mut head, 3)? {
+        return Ok(false);
     }
-    answer_record(wide(head[2]), wide(head[1]) * 256 + wide(head[0]))
+    answer_record(rt, from, wide(head[2]), wide(head[1]) * 256 + wide(head[0]))
 }
 
-fn main() {
+fn main(rt: HostRuntime) -> io::Result<()> {
+    let mut from = rt.reader();
     let mut left = MOST_RECORDS;
-    while left > 0 && next_record() {
+    while left > 0 && next_record(&rt, &mut from)? {
         left -= 1;
     }
+    Ok(())
 }
