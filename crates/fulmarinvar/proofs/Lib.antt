@@ -2,7 +2,6 @@ pub mod Alike
 pub mod VersionOne
 pub mod TwoLevels
 pub mod Levels
-pub mod Thin
 pub mod Trials
 pub mod Day
 pub mod Tags
