@@ -6,12 +6,13 @@ LIB = target/staticlib/libfulmarinvar.a
 PATTERNS = target/patterns/libfulmarinvar.a
 PLANNER = target/bin/planner
 BY_TRIAL = target/bin/by_trial
+TRIALS = target/bin/trials
 PROVED := $(shell find crates -name '*.rt' -o -name '*.antt') crates.txt
 
 # need TOOL: says what is missing
 need = command -v $(1) > /dev/null || { echo "$(1) is missing: it has to be on the PATH" >&2; exit 1; }
 
-.PHONY: plan try test check bench record sign trial skipped levels loads beside patterns climb soak install uninstall
+.PHONY: plan try test check archive programs bench record sign trial skipped levels loads beside patterns climb soak install uninstall
 
 plan: $(PLANNER)
 	@$(PLANNER) < $(SHEET)
@@ -22,21 +23,33 @@ try: $(BY_TRIAL)
 test:
 	@bash .ci/run
 
-# Proves what has changed since the last check, and runs the programs: the quick form, not the verdict.
+# Proves what has changed since the last check: the quick form, not the verdict.
 check:
-	@rt check
+	@$(call need,rt)
+	@rt all check
 
-$(PLANNER) $(BY_TRIAL): target/bin/%: $(PROVED)
+programs: $(PLANNER) $(BY_TRIAL) $(TRIALS)
+
+# verdict NAME: the verdict on a crate, which stays in target/log
+verdict = mkdir -p target/log && (cd crates/$(1) && rt check) > target/log/$(1).out 2>&1 || { cat target/log/$(1).out >&2; exit 1; }
+
+$(PLANNER) $(BY_TRIAL) $(TRIALS): target/bin/%: $(PROVED)
 	@$(call need,rt)
 	@echo "proving and building $*: some minutes the first time" >&2
-	@rt check $* >&2
-	@touch $@
+	@$(call verdict,$*)
+	@cd crates/$* && rt run < /dev/null > out/first 2>&1 || { cat out/first >&2; exit 1; }
+	@mkdir -p target/bin
+	@cp crates/$*/out/$* $@
+
+archive: $(LIB)
 
 $(LIB): $(PROVED)
 	@$(call need,rt)
 	@echo "proving and building the library: some minutes the first time" >&2
-	@rt staticlib fulmarinvar >&2
-	@touch $@
+	@$(call verdict,fulmarinvar)
+	@cd crates/fulmarinvar && rt lib >&2
+	@mkdir -p target/staticlib
+	@cp crates/fulmarinvar/out/libfulmarinvar.a $@
 
 BENCH = cargo run --release --offline --quiet --manifest-path bench/Cargo.toml --
 

@@ -21,7 +21,7 @@ fn main() {
     let archive = folder.join("libfulmarinvar.a");
     println!("cargo:rerun-if-changed={}", archive.display());
     if !archive.exists() {
-        eprintln!("{} is missing: run 'rt staticlib fulmarinvar', or name its folder in {FOLDER}", archive.display());
+        eprintln!("{} is missing: run 'make archive', or name its folder in {FOLDER}", archive.display());
         exit(1);
     }
     println!("cargo:rustc-link-search=native={}", folder.display());
