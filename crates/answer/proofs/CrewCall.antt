@@ -12,7 +12,6 @@ use Rattle.sheet.specs.contracts.Reading.{the_type}
 use Rattle.remaining.specs.Remaining.{remaining_of}
 use Rattle.answer.specs.Number.{number_of}
 use Rattle.sheet.specs.Readable.{ReadableJob}
-use Rattle.sheet.specs.declared.SheetJob as sheet
 use Rattle.sheet.specs.declared.Sheet.{Sheet}
 use Rattle.sheet.specs.declared.Reading.{Reading}
 use Rattle.sheet.specs.declared.Reading.TheVariants.{Readable, Refused}

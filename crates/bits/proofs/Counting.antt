@@ -5,7 +5,7 @@ use Prim.Native.Nat.{ℕ, zero, suc, ◌+◌, ◌≤◌, ◌<◌}
 use native.Mathlib.Omega.{arith}
 use native.Mathlib.Nat.{not-suc-le-zero}
 use Rattle.bits.specs.Below.{all, any, count}
-use Rattle.bits.proofs.Below.{by_cases, true-false, below_suc, and_left, and_right}
+use Rattle.bits.proofs.Below.{by_cases, true-false, below_suc}
 
 pub and_of : (a b : Bool) → a ≡ true → b ≡ true → a && b ≡ true
 and_of true b h k = k

@@ -1,14 +1,13 @@
 -- Narrowing who may do a step leaves the first plan as it is, where a plan is left and no earlier one is lost. Assumes nothing.
-use mathlib.Core.Bool.{Bool, true, ◌&&◌}
+use mathlib.Core.Bool.{Bool, true}
 use mathlib.Core.Path.{◌≡◌, refl, sym, subst, ◌∙◌}
 use Prim.Native.Nat.{ℕ, suc, ◌≤◌, ◌<◌}
 use native.Mathlib.Omega.{arith}
 use lib.Dec.{eqb, ltb}
 use borrow.Author.Tests.{eqb-true, eqb-false, eq-eqb, ltb-true, lt-ltb}
-use Rattle.bits.proofs.Below.{by_cases, and_left, and_right, below_suc}
-use Rattle.bits.proofs.Counting.{and_of}
+use Rattle.bits.proofs.Below.{by_cases, below_suc}
 use Rattle.workflow.specs.Problem.{Job, May, Plan, Valid, Satisfiable}
-use Rattle.workflow.specs.First.{found, nothing, plan_of, list_of, first_plan, Earlier}
+use Rattle.workflow.specs.First.{found, plan_of, list_of, first_plan, Earlier}
 use Rattle.workflow.proofs.Valid.{valid_mono}
 use Rattle.workflow.proofs.Order.{earlier_next}
 use Rattle.workflow.proofs.First.{found_cases, first_plan_found, first_plan_nothing, first_plan_unique, first_plan_given}

@@ -1,11 +1,11 @@
 -- What a rule of kind 5 asks for, what follows of a valid plan, and that the other kinds are what they were. Assumes nothing.
-use mathlib.Core.Bool.{Bool, true, false, not, ◌&&◌}
+use mathlib.Core.Bool.{Bool, true}
 use mathlib.Core.List.{List}
 use mathlib.Core.Logic.{◌↔◌}
-use mathlib.Core.Path.{◌≡◌, refl, sym, subst, ap, ◌∙◌}
-use Prim.Native.Nat.{ℕ, zero, suc, ◌≤◌, ◌<◌, ◌/◌}
+use mathlib.Core.Path.{◌≡◌, refl, sym, ◌∙◌}
+use Prim.Native.Nat.{ℕ, ◌≤◌, ◌<◌, ◌/◌}
 use native.Mathlib.Omega.{arith}
-use lib.Dec.{eqb, leb}
+use lib.Dec.{leb}
 use lib.ListN.{length, get_or}
 use borrow.Author.Tests.{not-true, leb-true, leb-false, le-leb, lt-leb}
 use Rattle.bits.specs.Word.{has_bit}
@@ -16,8 +16,7 @@ use Rattle.sheet.specs.Read.{job, read_sheet}
 use Rattle.sheet.proofs.InOrder.{rule_fields}
 use Rattle.sheet.proofs.Passes.{sheet_passes}
 use Rattle.sheet.proofs.Readable.{rule_card}
-use Rattle.workflow.specs.Problem.{Kind, same, different, at_most, at_least, maxLoad, Plan, distinct, load_of, largest_load, figure_of}
-use Rattle.workflow.specs.Numbered.{kind_in}
+use Rattle.workflow.specs.Problem.{Kind, same, different, at_most, at_least, maxLoad, Plan, distinct, largest_load, figure_of}
 use Rattle.workflow.specs.Skipped.{MarkedJob, scope_left, size_left, figure_left, AsksLeft, ValidLeft}
 use Rattle.workflow.proofs.Loads.{load_le_largest, largest_load-le, load_finer, count_load, fewest-le}
 use Rattle.workflow.proofs.Nested.{refines}
@@ -27,7 +26,7 @@ use Rattle.remaining.proofs.Laws.{levels_left, readable_in}
 use Rattle.instance.specs.Marked.{class_on, rule_on, marked_in, permitted_in}
 use Rattle.instance.proofs.Laws.{instance_nested}
 use Rattle.instance.proofs.Marked.{class_same}
-use Rattle.fulmarinvar.specs.Loads.{NoneOverloaded, LoadRule, LoadRules, Spread, ValidSpread, limit_ok_before, OtherKinds}
+use Rattle.fulmarinvar.specs.Loads.{NoneOverloaded, LoadRules, Spread, ValidSpread, OtherKinds}
 
 module _ (s : List ℕ) (m : MarkedJob) (c : ℕ) (five : rule_kind_of s c ≡ 5) where
   -- the limit is compared with the largest load

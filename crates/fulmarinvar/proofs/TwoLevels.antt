@@ -6,7 +6,7 @@ use Prim.Native.Nat.{ℕ, zero, suc, ◌+◌, ◌*◌, ◌-◌, ◌/◌, ◌<◌
 use native.Mathlib.Omega.{arith}
 use lib.Dec.{eqb, leb, ltb}
 use lib.ListN.{length, get_or, set}
-use Rattle.bits.specs.Below.{any, first}
+use Rattle.bits.specs.Below.{any}
 use Rattle.bits.specs.Member.{member}
 use Rattle.bits.specs.Sizes.{class_words}
 use Rattle.bits.specs.Word.{word_at}

@@ -1,5 +1,5 @@
 -- A day of signing on sheet W, as examples/sign.c has it: each call with the number that comes back, the newest first. Assumes nothing.
-use Rattle.std.specs.Prelude.{List, [], ◌∷◌, ◌≡◌, ℕ, ◌*◌}
+use Rattle.std.specs.Prelude.{List, [], ◌∷◌, ◌≡◌, ◌*◌}
 use Rattle.signing.specs.Open.{open_answer}
 use Rattle.signing.specs.Sign.{sign_answer}
 use Rattle.signing.specs.State.{never_opened}

@@ -5,7 +5,6 @@ use Rattle.std.specs.Prelude.{Bool, ◌&&◌, ◌||◌, List, ◌↔◌, ◌≡�
 use Rattle.card.specs.Fields.{within, levels_in, rule_kind_of, level_of, limit_of, scope_of, scope_size, limit_ok}
 use Rattle.sheet.specs.Read.{job, read_sheet}
 use Rattle.workflow.specs.Problem.{Kind, maxLoad, Plan, distinct, load_of, figure_of, fewest}
-use Rattle.workflow.specs.Numbered.{kind_in}
 use Rattle.workflow.specs.Skipped.{MarkedJob, scope_left, size_left, figure_left, AsksLeft, ValidLeft}
 use Rattle.instance.specs.Marked.{rule_on, marked_in, permitted_in}
 

@@ -1,7 +1,7 @@
 -- A job without the levels that no rule names has the same valid plans, and is one that the search can take. Assumes nothing.
 use mathlib.Core.List.{List}
 use mathlib.Core.Path.{◌≡◌, refl, sym, subst, ap, ◌∙◌}
-use Prim.Native.Nat.{ℕ, suc, ◌*◌, ◌%◌, ◌^◌, ◌≤◌, ◌<◌}
+use Prim.Native.Nat.{ℕ, suc, ◌^◌, ◌≤◌, ◌<◌}
 use native.Mathlib.Omega.{arith}
 use lib.ListN.{get_or}
 use Rattle.bits.specs.Below.{count}
@@ -13,7 +13,7 @@ use Rattle.pattern.specs.declared.Size.{Size}
 use Rattle.pattern.specs.Given.{Ruled, ClassTable, Classed}
 use Rattle.pattern.specs.Pattern.{Refining}
 use Rattle.pattern.specs.Number.{number_of}
-use Rattle.pattern.specs.Rule.{level_in, least_in, most_in, scope_in}
+use Rattle.pattern.specs.Rule.{level_in, scope_in}
 use Rattle.pattern.specs.Tables.{class_in, rule_in, job_in}
 use Rattle.pattern.proofs.Classes.{classed_table}
 use Rattle.pattern.proofs.Levels.{refining_up}

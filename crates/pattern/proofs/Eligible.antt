@@ -1,7 +1,7 @@
 -- What the groups of the placed steps say of a rule's count and of its loads. Assumes nothing.
 use mathlib.Core.Bool.{Bool, true, not, ◌&&◌}
 use mathlib.Core.Logic.{◌↔◌}
-use mathlib.Core.Path.{◌≡◌, refl, sym, subst}
+use mathlib.Core.Path.{◌≡◌, refl, sym}
 use Prim.Native.Nat.{ℕ, ◌+◌, ◌≤◌, ◌<◌}
 use native.Mathlib.Omega.{arith}
 use borrow.Author.Tests.{not-true}

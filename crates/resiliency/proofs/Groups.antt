@@ -5,15 +5,14 @@ use mathlib.Core.Path.{◌≡◌, refl, sym, subst, ◌∙◌}
 use Prim.Native.Nat.{ℕ, zero, suc, ◌<◌}
 use native.Mathlib.Omega.{arith}
 use native.Mathlib.Nat.{not-suc-le-zero}
-use lib.Dec.{eqb}
 use lib.ListN.{length, get_or}
-use borrow.Author.Tests.{eqb-true, eq-eqb, ne_eqb}
+use borrow.Author.Tests.{eq-eqb, ne_eqb}
 use Rattle.bits.specs.Below.{count}
 use Rattle.bits.proofs.Below.{by_cases, true-false, below_suc}
 use Rattle.bits.proofs.Counting.{is_false, count_none, count_insert, count-true, count-false, count-zero}
 use Rattle.workflow.proofs.Lists.{length-snoc, snoc_before, snoc_at}
 use Rattle.bits.specs.Member.{member}
-use Rattle.bits.proofs.Member.{member_place, member_of, member_has}
+use Rattle.bits.proofs.Member.{member_place, member_has}
 use Rattle.resiliency.specs.Away.{Group}
 
 module _ (people k : ℕ) (xs : List ℕ) (g : Group people k xs) where

@@ -14,7 +14,7 @@ use Rattle.bits.proofs.Counting.{any_cong}
 use Rattle.card.specs.Fields.{tag_of, class_levels, levels_in, class_of}
 use Rattle.card.specs.Refusals.{tag_fault, class_fault, loose_fault}
 use Rattle.chain.specs.Answer.{marked}
-use Rattle.sheet.specs.Read.{Read, job, fault, checked, on_three, first_clash, first_loose, same_tag, same_class_lem, class_moved}
+use Rattle.sheet.specs.Read.{Read, fault, checked, on_three, first_clash, first_loose, same_tag, same_class_lem, class_moved}
 use Rattle.sheet.specs.Answer.{answer, job_of, table, class_table}
 use Rattle.sheet.specs.Cards.{Listing, Marking, equal_at, moved_in}
 use Rattle.sheet.specs.declared.SheetJob.{SheetJob}

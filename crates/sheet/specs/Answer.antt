@@ -1,5 +1,5 @@
 -- The reader's answer: the counts or the refusal, and the job's arrays beside it. Assumes nothing.
-use Rattle.std.specs.Prelude.{List, [], map, ◌++◌, ℕ, zero, suc, ◌+◌, ◌*◌, ◌-◌, length, replicate}
+use Rattle.std.specs.Prelude.{List, [], map, ◌++◌, ℕ, zero, suc, ◌*◌, ◌-◌, length, replicate}
 use Rattle.bits.specs.Sizes.{class_words}
 use Rattle.card.specs.Fields.{class_levels, tag_of, levels_in, class_of, permitted_of, skipped_of, rule_kind_of, level_of, limit_of, scope_of}
 use Rattle.sheet.specs.Read.{Read, job, fault, read_sheet}

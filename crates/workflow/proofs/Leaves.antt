@@ -1,6 +1,6 @@
 -- The plans of the job of the remaining steps are those of the job as its sheet has it, in the same order. Assumes nothing.
 use mathlib.Core.Bool.{Bool, true, false, not, ◌&&◌}
-use mathlib.Core.Logic.{◌↔◌, ◌⊎◌, inl, inr}
+use mathlib.Core.Logic.{◌↔◌, inl, inr}
 use mathlib.Core.Path.{◌≡◌, refl, sym, subst, ap, ◌∙◌}
 use Prim.Native.Nat.{ℕ, ◌<◌, ◌≤◌}
 use native.Mathlib.Omega.{arith}
@@ -8,8 +8,8 @@ use lib.Dec.{eqb, ltb}
 use borrow.Author.Tests.{eqb-true, eqb-false, eq-eqb, ltb-true, ltb-false, not-true}
 use Rattle.bits.specs.Below.{count, first}
 use Rattle.bits.proofs.Below.{by_cases, true-false, and_left, and_right, first_has, first_none}
-use Rattle.bits.proofs.Counting.{and_of, count_cong, count-le, bool_ext}
-use Rattle.workflow.specs.Problem.{Job, May, Plan, Agree, Asks, Fits, Valid, Satisfiable, class_count, class_load, figure_of, opens, distinct, load_of, largest_load, HeldBySome, LargestLoad}
+use Rattle.bits.proofs.Counting.{and_of, count_cong, bool_ext}
+use Rattle.workflow.specs.Problem.{Job, May, Plan, Agree, Asks, Fits, Valid, Satisfiable, figure_of, opens, distinct, load_of, largest_load, HeldBySome}
 use Rattle.workflow.specs.First.{Earlier, FirstValid}
 use Rattle.workflow.specs.Skipped.{MarkedJob, scope_left, size_left, figure_left, AsksLeft, ValidLeft, SatisfiableLeft, EarlierLeft, FirstValidLeft, ValidWhole}
 use Rattle.workflow.specs.Leaves.{Leaves, plan_left, may_left}

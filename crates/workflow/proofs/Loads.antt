@@ -6,7 +6,7 @@ use Prim.Native.Nat.{ℕ, zero, suc, ◌+◌, ◌*◌, ◌-◌, ◌/◌, ◌≤�
 use native.Mathlib.Omega.{arith}
 use native.Mathlib.Nat.{div-lt_iff_lt-mul, div-zero, suc-mul}
 use lib.Dec.{eqb, leb, ltb}
-use borrow.Author.Tests.{eqb-true, eq-eqb, leb-true, leb-false, ltb-true, ltb-false, lt-ltb, ne_eqb}
+use borrow.Author.Tests.{eqb-true, eq-eqb, leb-true, leb-false, ltb-true, ltb-false, lt-ltb}
 use Rattle.bits.specs.Below.{count, first}
 use Rattle.bits.proofs.Below.{by_cases, true-false, below_suc, and_left, and_right, first_has, first_none}
 use Rattle.bits.proofs.Counting.{and_of, is_false, count_mono, count_at, count-le, count_some, count_none, count_split}

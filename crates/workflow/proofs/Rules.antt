@@ -9,7 +9,7 @@ use borrow.Author.Tests.{eqb-true, eqb-false, eq-eqb, ne_eqb, ltb-true, ltb-fals
 use Rattle.bits.specs.Below.{count}
 use Rattle.bits.proofs.Below.{by_cases}
 use Rattle.bits.proofs.Counting.{Two, count-le, count_at, count_two, count_is_two}
-use Rattle.workflow.specs.Problem.{Kind, Job, Plan, same, different, at_most, at_least, maxLoad, least_of, most_of, heaviest_of, rule_of, distinct, largest_load, looked_at, figure_of, class_count, class_load, fewest, Asks, Met, RuleOk, Fits, Pair}
+use Rattle.workflow.specs.Problem.{Kind, Job, Plan, same, different, at_most, at_least, maxLoad, least_of, most_of, heaviest_of, rule_of, distinct, largest_load, looked_at, figure_of, fewest, Asks, Met, RuleOk, Fits, Pair}
 use Rattle.workflow.specs.Skipped.{AsksLeft}
 use Rattle.workflow.proofs.Counts.{distinct-le_scope, distinct_some, distinct_pair}
 use Rattle.workflow.proofs.Loads.{largest_load_few, count_load, fewest-le}

@@ -2,7 +2,7 @@
 -- A card without a fault leaves room, so the room left falls. Assumes nothing.
 use native.Mathlib.Omega.{arith}
 use mathlib.Core.Path.{refl}
-use Prim.Native.Nat.{◌-◌, ◌<◌}
+use Prim.Native.Nat.{◌<◌}
 use Rattle.chain.proofs.Going.{going_start, going_end, going_index, going_fault, going_room, going_next}
 use Rattle.chain.proofs.walk_chain.Lts as lts
 use Rattle.chain.proofs.walk_chain.Reads as reads

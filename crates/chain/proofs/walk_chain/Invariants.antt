@@ -4,7 +4,7 @@ use Rattle.chain.proofs.Going.{Going}
 use Rattle.chain.proofs.walk_chain.Given as goal
 
 abbrev pub invariant-loop-at : goal.invariant-loop-at
-invariant-loop-at l = 
+invariant-loop-at l =
     Going (chain_of l.s l.cards l.kind l.steps (marked l.initial.marks)) l.most l.first l.marks l.list l.taken l.holder l.at
 
 abbrev pub decreases-loop-at : goal.decreases-loop-at

@@ -1,7 +1,6 @@
 -- `exhaustive::try_every` meets its contract: no plan before the one in hand is valid. Assumes nothing.
 use mathlib.Core.Bool.{Bool, true, false}
 use mathlib.Core.Path.{◌≡◌, subst}
-use Prim.Native.Nat.{◌-◌}
 use native.Mathlib.Omega.{arith}
 use borrow.Author.Tests.{not-true, not-false}
 use Rattle.bits.proofs.Says.{says_true, says_false}

@@ -1,6 +1,5 @@
 -- `first::from_any` meets its contract: the steps passed are settled, and the first plan is the same. Assumes nothing.
 use mathlib.Core.Path.{refl}
-use Prim.Native.Nat.{◌-◌}
 use native.Mathlib.Omega.{arith}
 use borrow.Author.Tests.{not-true, not-false}
 use Rattle.first.proofs.Settling.{settled_start, settled_next, settled-all, first_standing, first_none}

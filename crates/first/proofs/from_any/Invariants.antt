@@ -6,7 +6,7 @@ use Rattle.first.specs.Settle.{Settled}
 use Rattle.first.proofs.from_any.Given as goal
 
 abbrev pub invariant-loop-s : goal.invariant-loop-s
-invariant-loop-s l = 
+invariant-loop-s l =
     (l.s ≤ l.tables.size.steps)
     × (length l.weight ≡ 12)
     × Settled (tabled_job l.tables) l.s l.may l.left l.plan

@@ -5,7 +5,7 @@ use Rattle.first.proofs.Settling.{Looking}
 use Rattle.first.proofs.settle.Given as goal
 
 abbrev pub invariant-loop-left : goal.invariant-loop-left
-invariant-loop-left l = 
+invariant-loop-left l =
     (length l.weight ≡ 12)
     × (length l.plan ≡ 12)
     × Looking (tabled_job l.tables) l.s l.initial.may l.may l.initial.plan l.plan l.left

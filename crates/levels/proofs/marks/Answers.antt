@@ -1,5 +1,4 @@
 -- `levels::marks` meets its contract: the levels of the rules passed are marked. Assumes nothing.
-use Prim.Native.Nat.{◌-◌}
 use native.Mathlib.Omega.{arith}
 use Rattle.levels.proofs.Numbering.{marks_more}
 use Rattle.levels.proofs.marks.Goals as goal

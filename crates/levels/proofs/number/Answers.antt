@@ -1,6 +1,5 @@
 -- `levels::number` meets its contract: the marked levels passed are numbered. Assumes nothing.
 use mathlib.Core.Path.{refl, sym, ◌∙◌}
-use Prim.Native.Nat.{◌-◌}
 use native.Mathlib.Omega.{arith}
 use borrow.Author.Tests.{not-true}
 use Rattle.levels.proofs.Numbering.{numbered_none, numbered_skip, numbered_take, numbered_all}

@@ -1,6 +1,6 @@
 -- `levels::renumber` meets its contract: the rules passed have their new levels. Assumes nothing.
 use mathlib.Core.Path.{refl, subst}
-use Prim.Native.Nat.{ℕ, ◌-◌, ◌%◌}
+use Prim.Native.Nat.{ℕ, ◌%◌}
 use native.Mathlib.Omega.{arith}
 use lib.ListN.{get_or}
 use Rattle.levels.proofs.Copying.{renumbered_more}

@@ -1,5 +1,4 @@
 -- `matching::holder` meets its contract: no group passed has the class. Assumes nothing.
-use Prim.Native.Nat.{◌-◌}
 use native.Mathlib.Omega.{arith}
 use borrow.Author.Count.{below_more}
 use Rattle.matching.proofs.Laws.{holder_found, holder_none, other_class}

@@ -6,7 +6,6 @@ use Rattle.answer.proofs.Returnable.{read_returnable}
 use Rattle.answer.proofs.WasRead.{was_readable}
 use Rattle.answer.proofs.Found.{found_within}
 use Rattle.sheet.specs.Readable.{ReadableJob}
-use Rattle.instance.specs.Figures.{Staffed}
 use Rattle.instance.proofs.Figured.{staffed, rules_staffed}
 use Rattle.planner.proofs.write_answer.Goals as goal
 
@@ -20,19 +19,19 @@ plan_job-planned-requires g c =
 pub write_plan-requires : goal.write_plan-requires
 write_plan-requires g c =
     let w : ReadableJob c.in-Readable.people c.in-Readable.steps c.in-Readable.rules c.read_job-read.result.job
-        = was_readable _ c.read_job-read.result c.read_job-read.ensures c.in-Readable.people c.in-Readable.steps c.in-Readable.rules c.in-Readable.is in
+    = was_readable _ c.read_job-read.result c.read_job-read.ensures c.in-Readable.people c.in-Readable.steps c.in-Readable.rules c.in-Readable.is in
     let p = c.plan_job-planned in
     (w.steps_most, search rules, staffed w p.result.plan (found_within _ _ p.result.found p.result.plan p.ensures (not-false _ c.if-not-planned.false)))
 
 pub rule_figures-figures-requires : goal.rule_figures-figures-requires
 rule_figures-figures-requires g c =
     let w : ReadableJob c.in-Readable.people c.in-Readable.steps c.in-Readable.rules c.read_job-read.result.job
-        = was_readable _ c.read_job-read.result c.read_job-read.ensures c.in-Readable.people c.in-Readable.steps c.in-Readable.rules c.in-Readable.is in
+    = was_readable _ c.read_job-read.result c.read_job-read.ensures c.in-Readable.people c.in-Readable.steps c.in-Readable.rules c.in-Readable.is in
     let p = c.plan_job-planned in
     rules_staffed w p.result.plan (search rules) (staffed w p.result.plan (found_within _ _ p.result.found p.result.plan p.ensures (not-false _ c.if-not-planned.false)))
 
 pub write_rules-requires : goal.write_rules-requires
 write_rules-requires g c =
     let w : ReadableJob c.in-Readable.people c.in-Readable.steps c.in-Readable.rules c.read_job-read.result.job
-        = was_readable _ c.read_job-read.result c.read_job-read.ensures c.in-Readable.people c.in-Readable.steps c.in-Readable.rules c.in-Readable.is in
+    = was_readable _ c.read_job-read.result c.read_job-read.ensures c.in-Readable.people c.in-Readable.steps c.in-Readable.rules c.in-Readable.is in
     (w.rules_most, search rules)

@@ -1,6 +1,5 @@
 -- `relax::carry` meets its contract. Assumes nothing.
 use mathlib.Core.Path.{refl}
-use Prim.Native.Nat.{◌-◌}
 use native.Mathlib.Omega.{arith}
 use Rattle.relax.proofs.Carrying.{carries_more}
 use Rattle.relax.proofs.Following.{carriable}

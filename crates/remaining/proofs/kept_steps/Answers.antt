@@ -1,6 +1,6 @@
 -- `remaining::kept_steps` meets its contract. The invariant: the array has those of the steps passed that are not skipped. Assumes nothing.
 use mathlib.Core.Path.{◌≡◌, subst}
-use Prim.Native.Nat.{ℕ, ◌-◌}
+use Prim.Native.Nat.{ℕ}
 use native.Mathlib.Omega.{arith}
 use lib.Dec.{eqb}
 use lib.ListN.{get_or}
@@ -36,7 +36,7 @@ pub loop-s-preserved : goal.loop-s-preserved
 loop-s-preserved c =
     let i = c.loop-s.invariant in (
       elim c.if-skipped-s-ne1.branch [
-        then-skipped-s-ne1 w ↦ keeps_as (keeps_on _ _ _ _ i.0 (omega arith) (ne_eqb _ _ w.if-skipped-s-ne1.true)) w.step-is w.count-is
+        | then-skipped-s-ne1 w ↦ keeps_as (keeps_on _ _ _ _ i.0 (omega arith) (ne_eqb _ _ w.if-skipped-s-ne1.true)) w.step-is w.count-is
         | else-skipped-s-ne1 w ↦ keeps_as (keeps_out _ _ _ _ i.0 (eq-eqb _ _ w.if-skipped-s-ne1.false)) w.step-is w.count-is
       ],
       omega arith,

@@ -1,6 +1,5 @@
 -- `remaining::sets_left` meets its contract. The invariant: the first i sets are gathered. Assumes nothing.
 use mathlib.Core.Path.{◌∙◌, refl}
-use Prim.Native.Nat.{◌-◌}
 use native.Mathlib.Omega.{arith}
 use Rattle.sheet.proofs.Fill.{filled_none, filled_more, filled_all}
 use Rattle.remaining.proofs.Tables.{table_full}

@@ -1,6 +1,6 @@
 -- `remaining::tags_left` meets its contract. The invariant: the first k tags are in the table. Assumes nothing.
 use mathlib.Core.Path.{refl}
-use Prim.Native.Nat.{◌-◌, ◌<◌}
+use Prim.Native.Nat.{◌<◌}
 use native.Mathlib.Omega.{arith}
 use lib.ListN.{get_or}
 use Rattle.sheet.proofs.Fill.{filled_none, filled_more, filled_all}

@@ -76,12 +76,11 @@ pub loop-p-smaller : goal.loop-p-smaller
 loop-p-smaller c = omega (arith, c.loop-p-test.true)
 
 pub loop-p-preserved : goal.loop-p-preserved
-loop-p-preserved c =
-    (
-      c.loop-p.invariant.0,
-      omega (arith, c.loop-p-test.true),
-      people_more _ _ c.requires.3 (c.args.levels - 1) c.loop-p.p _ (last-level c) (person c) c.loop-p.invariant.2,
-    )
+loop-p-preserved c = (
+  c.loop-p.invariant.0,
+  omega (arith, c.loop-p-test.true),
+  people_more _ _ c.requires.3 (c.args.levels - 1) c.loop-p.p _ (last-level c) (person c) c.loop-p.invariant.2,
+)
 
 pub returns : goal.returns
 returns c =

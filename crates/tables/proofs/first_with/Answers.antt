@@ -1,6 +1,5 @@
 -- The invariant: none of the people passed has the word. Assumes nothing.
 use native.Mathlib.Omega.{arith}
-use Prim.Native.Nat.{◌-◌}
 use borrow.Author.Tests.{eq-eqb, ne_eqb}
 use Rattle.bits.proofs.Scan.{passed_none, passed_more, passed_found, passed_all}
 use Rattle.pattern.specs.Number.{first_use}

@@ -1,6 +1,5 @@
 -- The invariant: the masks have the bits of the people passed, the last ones. Assumes nothing.
 use native.Mathlib.Omega.{arith}
-use Prim.Native.Nat.{◌-◌}
 use Rattle.tables.proofs.Masks.{from_none, from_more, from_room, from_all}
 use Rattle.tables.proofs.may_masks.Goals as goal
 

@@ -1,6 +1,6 @@
 -- The invariant: the classes of the people passed have their numbers, and so many are met. Assumes nothing.
 use native.Mathlib.Omega.{arith}
-use Prim.Native.Nat.{ℕ, ◌-◌}
+use Prim.Native.Nat.{ℕ}
 use mathlib.Core.Path.{◌≡◌, subst, ◌∙◌}
 use Rattle.bits.proofs.SlotLaws.{firsts_none}
 use Rattle.tables.specs.Arrays.{LevelNumbered}
@@ -34,7 +34,7 @@ loop-p-preserved c =
     let e = c.enter_class.ensures in (
       omega (arith, l),
       elim c.if-enter_class.branch [
-        then-enter_class w ↦ w.met-is ∙ one_more _ _ _ _ l i.1 _ e.0 w.if-enter_class.true
+        | then-enter_class w ↦ w.met-is ∙ one_more _ _ _ _ l i.1 _ e.0 w.if-enter_class.true
         | else-enter_class w ↦ w.met-is ∙ as_many _ _ _ _ l i.1 _ e.0 w.if-enter_class.false
       ],
       e.2,

@@ -1,6 +1,6 @@
 -- The invariant: those of the rules passed that can be broken are packed. Assumes nothing.
 use mathlib.Core.Path.{refl, sym, ◌∙◌}
-use Prim.Native.Nat.{◌-◌, ◌<◌}
+use Prim.Native.Nat.{◌<◌}
 use native.Mathlib.Omega.{arith}
 use borrow.Author.Tests.{not-true, not-false}
 use Rattle.tables.proofs.Same.{packed_none, packed_room, packed_out, packed_more, packed_as, packed_all}
@@ -75,11 +75,11 @@ pub loop-i-preserved : goal.loop-i-preserved
 loop-i-preserved c =
     let v = c.loop-i in (
       elim c.if-can_break.branch [
-        then-can_break w ↦
-          packed_as _ _ _ _ _
-          (packed_more _ _ _ _ _ _ _ _ v.invariant.0 w.packed_rule.result (few c.before.before.before.before.before.before.before.before.before) (not-true _ (sym c.can_break.ensures ∙ w.if-can_break.true)) w.packed_rule.ensures) w.rule-is w.count-is
+        | then-can_break w ↦
+            packed_as _ _ _ _ _
+            (packed_more _ _ _ _ _ _ _ _ v.invariant.0 w.packed_rule.result (few c.before.before.before.before.before.before.before.before.before) (not-true _ (sym c.can_break.ensures ∙ w.if-can_break.true)) w.packed_rule.ensures) w.rule-is w.count-is
         | else-can_break w ↦
-          packed_as _ _ _ _ _ (packed_out _ _ _ _ _ _ _ _ v.invariant.0 (not-false _ (sym c.can_break.ensures ∙ w.if-can_break.false))) w.rule-is w.count-is
+            packed_as _ _ _ _ _ (packed_out _ _ _ _ _ _ _ _ v.invariant.0 (not-false _ (sym c.can_break.ensures ∙ w.if-can_break.false))) w.rule-is w.count-is
       ],
       omega (arith, c.loop-i-test.true),
     )

@@ -1,6 +1,5 @@
 -- The invariant: the masks passed have their bit. Assumes nothing.
 use native.Mathlib.Omega.{arith}
-use Prim.Native.Nat.{◌-◌}
 use Rattle.tables.proofs.Masks.{pushed_none, pushed_more, pushed_room, pushed_all}
 use Rattle.tables.proofs.push.Goals as goal
 

@@ -1,6 +1,5 @@
 -- The invariant: the steps passed are written, and the rest of the buffer is as it was. Assumes nothing.
 use native.Mathlib.Omega.{arith}
-use Prim.Native.Nat.{◌-◌}
 use Rattle.answer.proofs.PutCrew.{writing_none, writing_length, put_person, writing_all}
 use Rattle.answer.proofs.crew.write_crew.Goals as goal
 

@@ -1,5 +1,5 @@
 -- `backtrack::ends::meets_all` meets its contract: the rules passed are met in every job of these arrays. Assumes nothing.
-use Prim.Native.Nat.{◌-◌, ◌<◌}
+use Prim.Native.Nat.{◌<◌}
 use native.Mathlib.Omega.{arith}
 use borrow.Author.Tests.{not-true, not-false}
 use Rattle.pattern.proofs.Given.{scope_small}

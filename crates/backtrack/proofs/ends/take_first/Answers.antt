@@ -1,6 +1,5 @@
 -- `backtrack::ends::take_first` meets its contract: the steps passed have the first of their domains. Assumes nothing.
 use mathlib.Core.Path.{refl}
-use Prim.Native.Nat.{◌-◌}
 use native.Mathlib.Omega.{arith}
 use Rattle.bits.proofs.Below.{true-false}
 use Rattle.backtrack.proofs.Ending.{first_none, first_more, first-all}

@@ -1,5 +1,4 @@
 -- The invariant: the first p entries are copied. Assumes nothing.
-use Prim.Native.Nat.{◌-◌}
 use mathlib.Core.Path.{refl, sym}
 use native.Mathlib.Omega.{arith}
 use Rattle.bits.specs.Columns.{column_of}

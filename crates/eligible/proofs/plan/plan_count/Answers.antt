@@ -10,12 +10,11 @@ pub loop-left-init : goal.loop-left-init
 loop-left-init c = walked_none c.scope-left.ensures
 
 pub label_of-requires : goal.label_of-requires
-label_of-requires c =
-    (
-      subst (OneLevel _) (sym c.level-level.ensures.0) c.requires.0,
-      c.requires.2,
-      turn_below (scope_in c.args.r) c.loop-left.invariant.part c.take-next.ensures.1 12 c.requires.1,
-    )
+label_of-requires c = (
+  subst (OneLevel _) (sym c.level-level.ensures.0) c.requires.0,
+  c.requires.2,
+  turn_below (scope_in c.args.r) c.loop-left.invariant.part c.take-next.ensures.1 12 c.requires.1,
+)
 
 pub loop-left-smaller : goal.loop-left-smaller
 loop-left-smaller c = c.take-next.ensures.1.less

@@ -1,4 +1,3 @@
-use Prim.Native.Nat.{◌-◌}
 use Rattle.exhaustive.proofs.Next.{Carrying}
 use Rattle.exhaustive.proofs.plans.next_plan.Given as goal
 

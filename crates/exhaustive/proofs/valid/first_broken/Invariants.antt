@@ -1,6 +1,5 @@
 use mathlib.Core.Bool.{not}
 use Prim.Native.Nat.{◌-◌}
-use borrow.Author.Rules.{rules}
 use Rattle.bits.proofs.Scan.{Passed}
 use Rattle.workflow.specs.Problem.{met}
 use Rattle.workflow.specs.First.{plan_of}

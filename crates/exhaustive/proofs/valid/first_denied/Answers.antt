@@ -1,7 +1,7 @@
 -- `exhaustive::valid::first_denied` meets its contract: none of the steps passed is denied. Assumes nothing.
 use mathlib.Core.Bool.{not}
 use mathlib.Core.Path.{sym, ap, ◌∙◌}
-use Prim.Native.Nat.{◌-◌, ◌<◌}
+use Prim.Native.Nat.{◌<◌}
 use native.Mathlib.Omega.{arith}
 use lib.ListN.{get_or}
 use Rattle.bits.proofs.Scan.{passed_none, passed_more, passed_found, passed_all}

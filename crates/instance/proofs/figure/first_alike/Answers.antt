@@ -1,7 +1,6 @@
 -- `instance::figure::first_alike` meets its contract: none of the steps passed has the class. Assumes nothing.
 use mathlib.Core.Path.{sym, ◌∙◌}
 use native.Mathlib.Omega.{arith}
-use Prim.Native.Nat.{◌-◌}
 use borrow.Author.Tests.{eq-eqb, ne_eqb}
 use Rattle.bits.proofs.Scan.{passed_none, passed_more, passed_found, passed_all}
 use Rattle.instance.proofs.figure.first_alike.Goals as goal

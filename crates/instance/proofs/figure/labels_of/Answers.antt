@@ -7,7 +7,7 @@ use Rattle.workflow.specs.First.{plan_of}
 use Rattle.workflow.proofs.Labels.{part_rest, turn_below}
 use Rattle.workflow.proofs.Tally.{entered_none, entered_more, entered_all, entered_at}
 use Rattle.instance.specs.Instance.{class_at}
-use Rattle.instance.proofs.Classes.{first_alike, alike_le}
+use Rattle.instance.proofs.Classes.{alike_le}
 use Rattle.instance.proofs.figure.labels_of.Goals as goal
 use Rattle.instance.proofs.figure.labels_of.Goals.{After-take-next, Start}
 

@@ -5,7 +5,7 @@ use Prim.Native.Nat.{ℕ, ◌<◌}
 use Rattle.workflow.specs.First.{plan_of}
 use Rattle.workflow.proofs.Labels.{turn_below, gathered_none, gathered_more, gathered_all}
 use Rattle.instance.specs.Instance.{class_at}
-use Rattle.instance.proofs.Classes.{first_alike, alike_le, alike_distinct}
+use Rattle.instance.proofs.Classes.{alike_le, alike_distinct}
 use Rattle.instance.proofs.figure.rule_count.Goals as goal
 use Rattle.instance.proofs.figure.rule_count.Goals.{After-take-next, Start}
 
@@ -35,8 +35,7 @@ loop-left-preserved c =
     gathered_more c.loop-left.invariant c.take-next.ensures.1 c.first_alike.ensures c.with-labels.ensures
 
 pub returns : goal.returns
-returns c =
-    (
-      c.class_count.ensures.0,
-      λ n b. c.class_count.ensures.1 n _ _ (gathered_all c.loop-left.invariant c.loop-left-test.false n b) ∙ alike_distinct _ n _,
-    )
+returns c = (
+  c.class_count.ensures.0,
+  λ n b. c.class_count.ensures.1 n _ _ (gathered_all c.loop-left.invariant c.loop-left-test.false n b) ∙ alike_distinct _ n _,
+)

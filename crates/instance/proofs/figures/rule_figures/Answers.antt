@@ -1,6 +1,6 @@
 -- `instance::figures::rule_figures` meets its contract: the rules passed have their figures. Assumes nothing.
 use mathlib.Core.Path.{◌≡◌, subst}
-use Prim.Native.Nat.{ℕ, ◌-◌, ◌<◌}
+use Prim.Native.Nat.{ℕ, ◌<◌}
 use native.Mathlib.Omega.{arith}
 use borrow.Author.Rules.{rules}
 use Rattle.workflow.specs.First.{plan_of}
@@ -34,12 +34,11 @@ pub bounds-scope-i : goal.bounds-scope-i
 bounds-scope-i c = below c.before
 
 pub rule_figure-requires : goal.rule_figure-requires
-rule_figure-requires c =
-    (
-      columns c.before.before.before.before.before.before,
-      c.requires.scoped c.loop-i.i c.loop-i-test.true,
-      λ u h. c.requires.staffed c.loop-i.i u c.loop-i-test.true h,
-    )
+rule_figure-requires c = (
+  columns c.before.before.before.before.before.before,
+  c.requires.scoped c.loop-i.i c.loop-i-test.true,
+  λ u h. c.requires.staffed c.loop-i.i u c.loop-i-test.true h,
+)
 
 pub overflow_cast-figures : goal.overflow_cast-figures
 overflow_cast-figures c = omega (arith, c.rule_figure.ensures.0)

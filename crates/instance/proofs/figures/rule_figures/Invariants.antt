@@ -1,5 +1,4 @@
 use Prim.Native.Nat.{◌-◌, ◌≤◌}
-use borrow.Author.Rules.{rules}
 use Rattle.workflow.specs.First.{plan_of}
 use Rattle.instance.specs.Figures.{FiguresOf, kind_at, ForInstances}
 use Rattle.instance.proofs.figures.rule_figures.Given as goal

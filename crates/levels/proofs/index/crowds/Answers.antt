@@ -62,8 +62,7 @@ loop-p-smaller c = omega (arith, c.loop-p-test.true)
 
 pub loop-p-preserved : goal.loop-p-preserved
 loop-p-preserved c =
-    let l = c.loop-p in
-    (
+    let l = c.loop-p in (
       omega (arith, c.loop-p-test.true),
       completing_more c.requires.1.few l.p c.with.result c.loop-p-test.true
           (omega (arith, c.requires.0, c.if-levels-eq0.false)) l.invariant.1 c.with.ensures,

@@ -1,6 +1,5 @@
 -- The invariant: the entries passed have the people of the class that stands there. Assumes nothing.
 use mathlib.Core.Path.{refl}
-use Prim.Native.Nat.{◌-◌}
 use native.Mathlib.Omega.{arith}
 use Rattle.levels.proofs.Crowds.{person_none, person_more, gathered}
 use Rattle.levels.proofs.index.gather.Goals as goal

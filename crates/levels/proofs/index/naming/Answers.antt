@@ -1,10 +1,9 @@
 -- `levels::index::naming` meets its contract: the rules passed are with the steps that they name. Assumes nothing.
 use mathlib.Core.Path.{sym, subst}
-use Prim.Native.Nat.{ℕ, ◌<◌, ◌-◌}
+use Prim.Native.Nat.{ℕ, ◌<◌}
 use Rattle.pattern.proofs.Given.{scope_small}
 use Rattle.levels.proofs.Names.{Giving, naming_none, giving_none, giving_next, naming_next, naming_all}
 use native.Mathlib.Omega.{arith}
-use borrow.Author.Rules.{rules}
 use Rattle.levels.proofs.index.naming.Lts as lts
 use Rattle.levels.proofs.index.naming.Reads as reads
 use Rattle.levels.proofs.index.naming.Tie as tie

@@ -1,7 +1,6 @@
 use Prim.Native.Nat.{◌≤◌, ◌-◌}
 use Rattle.levels.specs.Tabled.{Naming}
 use Rattle.levels.proofs.Names.{Giving}
-use borrow.Author.Rules.{rules}
 use Rattle.levels.proofs.index.naming.Given as goal
 
 abbrev pub invariant-loop-rest : goal.invariant-loop-rest

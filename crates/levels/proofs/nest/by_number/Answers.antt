@@ -1,6 +1,6 @@
 -- `levels::nest::by_number` meets its contract: the people passed are in their classes. Assumes nothing.
 use mathlib.Core.Path.{refl, sym, subst}
-use Prim.Native.Nat.{◌-◌, ◌%◌}
+use Prim.Native.Nat.{◌%◌}
 use Rattle.pattern.specs.Nesting.{ByNumber}
 use Rattle.levels.proofs.Nesting.{numbered_none, numbered_skip, numbered_take, numbered_all}
 use native.Mathlib.Omega.{arith}
@@ -63,8 +63,7 @@ loop-x-smaller c = omega arith
 
 pub loop-x-preserved : goal.loop-x-preserved
 loop-x-preserved c =
-    let l = c.loop-x in
-    (
+    let l = c.loop-x in (
       omega arith,
       numbered_take c.args.people c.args.levels c.requires.0 c.requires.1 c.args.class.now (λ b p. p) l.x l.inside l.invariant.1
           c.loop-x-test.true (l.x % 64) c.with.result c.if-p-people.false refl c.with.ensures,

@@ -1,5 +1,4 @@
 -- `levels::nest::nests` meets its contract. The invariant: what the people passed stand for is inside their classes. Assumes nothing.
-use Prim.Native.Nat.{◌-◌}
 use native.Mathlib.Omega.{arith}
 use Rattle.pattern.specs.Nesting.{part_in}
 use Rattle.levels.proofs.Nesting.{numbered_none, numbered_skip, numbered_all, nest_people, nest_class}
@@ -67,8 +66,7 @@ loop-x-smaller-then-levels-x c = omega arith
 
 pub loop-x-preserved-then-levels-x : goal.loop-x-preserved-then-levels-x
 loop-x-preserved-then-levels-x c =
-    let l = c.loop-x in
-    (
+    let l = c.loop-x in (
       omega arith,
       nest_people c.args.people c.args.levels c.requires.0 c.requires.1 c.args.class.now c.args.crowd.now c.requires.3 l.x l.inside l.invariant.1
           c.loop-x-test.true c.if-p-people.false c.if-levels-x.true,
@@ -106,8 +104,7 @@ loop-x-smaller c = omega arith
 
 pub loop-x-preserved : goal.loop-x-preserved
 loop-x-preserved c =
-    let l = c.loop-x in
-    (
+    let l = c.loop-x in (
       omega arith,
       nest_class c.args.people c.args.levels c.requires.0 c.requires.1 c.args.class.now c.args.crowd.now c.requires.3 l.x l.inside l.invariant.1
           c.loop-x-test.true c.if-p-people.false c.with.result c.if-levels-x.false c.with.ensures,

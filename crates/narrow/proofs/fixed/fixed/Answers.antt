@@ -33,22 +33,20 @@ pub loop-left-smaller-then-used-mask-ne0 : goal.loop-left-smaller-then-used-mask
 loop-left-smaller-then-used-mask-ne0 c = c.take-next.ensures.1.less
 
 pub loop-left-preserved-then-used-mask-ne0 : goal.loop-left-preserved-then-used-mask-ne0
-loop-left-preserved-then-used-mask-ne0 c =
-    (
-      fewer c.before.before.before.before.before.before,
-      λ steps few people g. settling_joins (c.loop-left.invariant.1 steps few people g) c.take-next.ensures.1 c.if-mask-eq0.false (c.shared-mask.ensures people g) c.if-used-mask-ne0.true,
-    )
+loop-left-preserved-then-used-mask-ne0 c = (
+  fewer c.before.before.before.before.before.before,
+  λ steps few people g. settling_joins (c.loop-left.invariant.1 steps few people g) c.take-next.ensures.1 c.if-mask-eq0.false (c.shared-mask.ensures people g) c.if-used-mask-ne0.true,
+)
 
 pub loop-left-smaller : goal.loop-left-smaller
 loop-left-smaller c = c.take-next.ensures.1.less
 
 pub loop-left-preserved : goal.loop-left-preserved
-loop-left-preserved c =
-    (
-      fewer c.before.before.before.before.before.before.before.before,
-      λ steps few people g. settling_more (c.loop-left.invariant.1 steps few people g) c.take-next.ensures.1 c.if-mask-eq0.false (c.shared-mask.ensures people g)
-          c.lowest.ensures.1 c.with-labels.ensures,
-    )
+loop-left-preserved c = (
+  fewer c.before.before.before.before.before.before.before.before,
+  λ steps few people g. settling_more (c.loop-left.invariant.1 steps few people g) c.take-next.ensures.1 c.if-mask-eq0.false (c.shared-mask.ensures people g)
+      c.lowest.ensures.1 c.with-labels.ensures,
+)
 
 pub returns : goal.returns
 returns c =

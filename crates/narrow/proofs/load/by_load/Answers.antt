@@ -35,12 +35,11 @@ pub close-revision-requires : goal.close-revision-requires
 close-revision-requires c = (c.requires.1, sized c.before.before.before.before.before.before.before)
 
 pub returns-then-revision : goal.returns-then-revision
-returns-then-revision c =
-    (
-      closing_lost c.loop-left.invariant c.take-next.ensures.1 c.level-level.ensures.0 c.shared-mask.ensures c.if-mask-eq0.false
-          c.close-revision.ensures.0 c.if-revision.true,
-      small_or c.loop-left.changed c.close-revision.result.changed c.loop-left.invariant.small c.close-revision.ensures.1,
-    )
+returns-then-revision c = (
+  closing_lost c.loop-left.invariant c.take-next.ensures.1 c.level-level.ensures.0 c.shared-mask.ensures c.if-mask-eq0.false
+      c.close-revision.ensures.0 c.if-revision.true,
+  small_or c.loop-left.changed c.close-revision.result.changed c.loop-left.invariant.small c.close-revision.ensures.1,
+)
 
 pub loop-left-smaller : goal.loop-left-smaller
 loop-left-smaller c = c.take-next.ensures.1.less

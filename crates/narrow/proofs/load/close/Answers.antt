@@ -11,12 +11,11 @@ use Rattle.narrow.proofs.load.close.Goals as goal
 use Rattle.narrow.proofs.load.close.Goals.{After-load-highest}
 
 pub returns-then-load-highest : goal.returns-then-load-highest
-returns-then-load-highest c =
-    (
-      λ j o. closed_lost c.within-held.ensures c.scope-scope.ensures o c.requires.1
-          (omega (arith, c.size-load.ensures, c.load-highest.ensures, c.if-load-highest.true)),
-      omega arith,
-    )
+returns-then-load-highest c = (
+  λ j o. closed_lost c.within-held.ensures c.scope-scope.ensures o c.requires.1
+      (omega (arith, c.size-load.ensures, c.load-highest.ensures, c.if-load-highest.true)),
+  omega arith,
+)
 
 pub returns-then-load-highest-2 : goal.returns-then-load-highest-2
 returns-then-load-highest-2 c = (λ j o. revised_none c.requires.1, omega arith)
@@ -30,10 +29,9 @@ pub restrict-requires : goal.restrict-requires
 restrict-requires c = (others c.before.before.before, c.requires.1)
 
 pub returns : goal.returns
-returns c =
-    (
-      λ j o. closed_rest c.within-held.ensures c.scope-scope.ensures o
-          (omega (arith, c.size-load.ensures, c.load-highest.ensures, c.if-load-highest.false, c.if-load-highest-2.false))
-          c.restrict.ensures (λ p b h. xor_all c.args.mask p b ∙ ap not h),
-      changed_small c.restrict.ensures (others c.before.before.before.before),
-    )
+returns c = (
+  λ j o. closed_rest c.within-held.ensures c.scope-scope.ensures o
+      (omega (arith, c.size-load.ensures, c.load-highest.ensures, c.if-load-highest.false, c.if-load-highest-2.false))
+      c.restrict.ensures (λ p b h. xor_all c.args.mask p b ∙ ap not h),
+  changed_small c.restrict.ensures (others c.before.before.before.before),
+)

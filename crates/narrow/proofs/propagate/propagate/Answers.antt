@@ -1,5 +1,4 @@
 -- `narrow::propagate::propagate` meets its contract: no valid plan is lost so far, and the effort falls. Assumes nothing.
-use mathlib.Core.Bool.{true}
 use native.Mathlib.Omega.{arith}
 use Rattle.pattern.proofs.Given.{scope_small}
 use Rattle.narrow.proofs.Passing.{narrowed_none, narrowed_more, narrowed_lost}

@@ -17,8 +17,7 @@ returns-then-hopeless c =
     (λ size rule at. revised_lost (state c.before.before size rule at) (c.hopeless.ensures c.if-hopeless.true size.people at.grouped), omega arith)
 
 pub returns : goal.returns
-returns c =
-    (
-      λ size rule at. revised (state c.before.before.before.before.before size rule at) c.restrict.ensures (c.allowed-people.ensures size.people at.grouped),
-      changed_small c.restrict.ensures c.fixed-forced.ensures.0,
-    )
+returns c = (
+  λ size rule at. revised (state c.before.before.before.before.before size rule at) c.restrict.ensures (c.allowed-people.ensures size.people at.grouped),
+  changed_small c.restrict.ensures c.fixed-forced.ensures.0,
+)

@@ -2,7 +2,7 @@
 -- so the measures are three times the levels left, and 2, 1 and 0 more. The loops' invariants: all but the groups left, and all but the classes
 -- left of a group, have their edges. Assumes nothing.
 use mathlib.Core.Path.{refl}
-use Prim.Native.Nat.{ℕ, ◌+◌, ◌*◌, ◌-◌, ◌<◌}
+use Prim.Native.Nat.{ℕ, ◌+◌, ◌*◌, ◌<◌}
 use native.Mathlib.Omega.{arith}
 use borrow.Author.Tests.{not-true, not-false}
 use Rattle.bits.specs.Sizes.{class_entries}

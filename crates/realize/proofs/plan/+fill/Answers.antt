@@ -1,7 +1,7 @@
 -- The proof of `realize::plan::fill`, which calls itself one level down: the measure is the levels left. The loop's invariant: all but the groups
 -- left are with their classes, and other steps have whom they had, so a further group leaves the others as they are. Assumes nothing.
 use mathlib.Core.Path.{◌∙◌}
-use Prim.Native.Nat.{ℕ, ◌+◌, ◌*◌, ◌-◌, ◌<◌}
+use Prim.Native.Nat.{ℕ, ◌+◌, ◌*◌, ◌<◌}
 use native.Mathlib.Omega.{arith}
 use lib.ListN.{get_or}
 use borrow.Author.Tests.{not-true, not-false}

@@ -1,6 +1,5 @@
 -- `realize::tables::holding` meets its contract. The loop's invariant: the classes passed have something inside, and those of them with one of
 -- `these` are found. Assumes nothing.
-use Prim.Native.Nat.{◌-◌}
 use native.Mathlib.Omega.{arith}
 use Rattle.realize.proofs.Reach.{held_none, held_skip, held_more, holding_all, holding_empty}
 use Rattle.realize.proofs.tables.holding.Goals as goal

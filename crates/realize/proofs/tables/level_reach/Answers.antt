@@ -1,6 +1,6 @@
 -- `realize::tables::level_reach` meets its contract. The loop's invariant: the steps passed have their masks, and the levels below keep theirs.
 -- Assumes nothing.
-use Prim.Native.Nat.{ℕ, ◌+◌, ◌*◌, ◌-◌}
+use Prim.Native.Nat.{ℕ, ◌+◌, ◌*◌}
 use native.Mathlib.Omega.{arith}
 use lib.Bits.{bit_and}
 use lib.ListN.{get_or, set}

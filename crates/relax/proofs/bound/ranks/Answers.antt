@@ -1,5 +1,5 @@
 -- `relax::bound::ranks` meets its contract. The loop's invariant: the fine classes met at the people passed are counted. Assumes nothing.
-use Prim.Native.Nat.{◌-◌, ◌<◌}
+use Prim.Native.Nat.{◌<◌}
 use native.Mathlib.Omega.{arith}
 use lib.ListN.{get_or}
 use Rattle.pattern.specs.Tables.{class_in}

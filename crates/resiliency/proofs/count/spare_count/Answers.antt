@@ -11,14 +11,13 @@ pub returns-then-not-exists : goal.returns-then-not-exists
 returns-then-not-exists c = spare_none c.args.cap c.exists.ensures.0 (not-true c.exists.result (ap not c.if-not-exists.true))
 
 pub keep_plan-requires : goal.keep_plan-requires
-keep_plan-requires c =
-    (
-      c.requires.0.tabled.given.ruled.few_steps,
-      c.exists.ensures.0.sized,
-      found_people c.exists.ensures.0 (not-false c.exists.result (ap not c.if-not-exists.false)) c.requires.0.tabled.given.few_people,
-      refl,
-      refl,
-    )
+keep_plan-requires c = (
+  c.requires.0.tabled.given.ruled.few_steps,
+  c.exists.ensures.0.sized,
+  found_people c.exists.ensures.0 (not-false c.exists.result (ap not c.if-not-exists.false)) c.requires.0.tabled.given.few_people,
+  refl,
+  refl,
+)
 
 pub sizes-requires : goal.sizes-requires
 sizes-requires c =

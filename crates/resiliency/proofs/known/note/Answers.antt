@@ -1,6 +1,5 @@
 -- The invariant: the words of the people passed have the plan in front. Assumes nothing.
 use mathlib.Core.Path.{sym, ◌∙◌}
-use Prim.Native.Nat.{◌-◌}
 use native.Mathlib.Omega.{arith}
 use lib.ListN.{get_or}
 use Rattle.resiliency.proofs.Knowing.{half_fits, noted_none, noted_in, noted_out, noted_all}

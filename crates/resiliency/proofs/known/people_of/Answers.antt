@@ -1,6 +1,5 @@
 -- The invariant: the mask has the people of the steps passed. Assumes nothing.
 use native.Mathlib.Omega.{arith}
-use Prim.Native.Nat.{◌-◌}
 use Rattle.resiliency.proofs.Knowing.{uses_none, uses_more, uses_all}
 use Rattle.resiliency.proofs.known.people_of.Goals as goal
 

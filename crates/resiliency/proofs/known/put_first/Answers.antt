@@ -1,6 +1,5 @@
 -- The invariant: the masks passed have moved, and the next one to put is in hand. Assumes nothing.
 use mathlib.Core.Path.{refl}
-use Prim.Native.Nat.{◌-◌}
 use native.Mathlib.Omega.{arith}
 use Rattle.resiliency.proofs.Knowing.{moved_none, moved_more, moved_next, moved_all}
 use Rattle.resiliency.proofs.known.put_first.Goals as goal

@@ -1,6 +1,5 @@
 -- The invariant: the masks of the steps passed lack the people away. Assumes nothing.
 use native.Mathlib.Omega.{arith}
-use Prim.Native.Nat.{◌-◌}
 use mathlib.Core.Path.{refl}
 use Rattle.resiliency.proofs.Knowing.{remaining_none, remaining_more, remaining_all}
 use Rattle.resiliency.proofs.known.remaining.Goals as goal

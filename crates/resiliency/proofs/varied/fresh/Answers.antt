@@ -1,6 +1,5 @@
 -- `resiliency::varied::fresh` meets its contract. Assumes nothing.
 use mathlib.Core.Path.{refl}
-use Prim.Native.Nat.{◌-◌}
 use native.Mathlib.Omega.{arith}
 use Rattle.resiliency.proofs.Varying.{fresh_part, apart_none, apart_more}
 use Rattle.resiliency.proofs.varied.fresh.Goals as goal

@@ -1,6 +1,6 @@
 -- The invariants: the groups of the first people passed leave a plan, so do those of a and the people after it passed, and those of a and b
 -- with everyone after who is not in the rest. Assumes nothing.
-use Prim.Native.Nat.{◌-◌, ◌≤◌}
+use Prim.Native.Nat.{◌≤◌}
 use native.Mathlib.Omega.{arith}
 use borrow.Author.Tests.{not-true, not-false}
 use Rattle.bits.proofs.Masks.{taken_part_less}

@@ -5,7 +5,7 @@ use Rattle.resiliency.proofs.Turns.{TwoTurn, TwoTries}
 use Rattle.resiliency.proofs.walk.first_two.Given as goal
 
 abbrev pub invariant-loop-rest : goal.invariant-loop-rest
-invariant-loop-rest l = 
+invariant-loop-rest l =
     TwoTries (tabled_job l.tables) (may_in l.may) l.a l.away l.rest l.known l.plans l.weight l.first
 
 abbrev pub decreases-loop-rest : goal.decreases-loop-rest

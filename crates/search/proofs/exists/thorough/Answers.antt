@@ -13,8 +13,7 @@ returns-then-not-narrow_all c =
 
 pub returns-then-refuted_by_levels : goal.returns-then-refuted_by_levels
 returns-then-refuted_by_levels c =
-    let r = c.refuted_by_levels in
-    (
+    let r = c.refuted_by_levels in (
       existence_narrowed _ _ _ _ _ _ _ c.narrow_all.ensures (not-false _ (ap not c.if-not-narrow_all.false)) (existence_refuted _ _ _ _ c.requires.3 r.ensures.0 c.if-refuted_by_levels.true),
       r.ensures.1,
     )

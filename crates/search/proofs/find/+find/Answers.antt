@@ -1,7 +1,7 @@
 -- The proof of the cycle of calls {find}: each call has fewer steps left to place. The loop's invariant: no valid plan goes by a way
 -- that is tried, and the labels of the placed steps are as they were. Assumes nothing.
 use mathlib.Core.Path.{subst}
-use Prim.Native.Nat.{ℕ, ◌-◌, ◌<◌}
+use Prim.Native.Nat.{ℕ, ◌<◌}
 use native.Mathlib.Omega.{arith}
 use borrow.Author.Tests.{not-true, not-false}
 use Rattle.bits.proofs.SetLaws.{removed_less}

@@ -9,7 +9,7 @@ abbrev pub decreases-find : goal.decreases-find
 decreases-find l = l.front.rest
 
 abbrev pub invariant-loop-w : goal.invariant-loop-w
-invariant-loop-w l = 
+invariant-loop-w l =
     (l.w ≤ l.size.levels * 12 + 1)
     × (length l.weight ≡ 12)
     × WaysTried (nested_job l.size l.nest l.rule) (may_in l.may) l.front.placed l.s l.w l.initial.label l.label

@@ -1,6 +1,5 @@
 -- `search::limits::classes_of` meets its contract. The loop's invariant: the classes of the steps passed are found. Assumes nothing.
 use mathlib.Core.Path.{sym, ◌∙◌}
-use Prim.Native.Nat.{◌-◌}
 use native.Mathlib.Omega.{arith}
 use borrow.Author.Tests.{not-true}
 use Rattle.search.proofs.LowerLimits.{gathering_none, gathering_past, gathering_more, gathering_all}

@@ -1,5 +1,4 @@
 -- `search::limits::edges_of` meets its contract. The loop's invariant: the steps passed have their edges. Assumes nothing.
-use Prim.Native.Nat.{◌-◌}
 use native.Mathlib.Omega.{arith}
 use Rattle.search.proofs.LowerLimits.{edges_none, edges_more, edges_all}
 use Rattle.search.proofs.limits.edges_of.Goals as goal

@@ -1,6 +1,5 @@
 -- `search::limits::extra_classes` meets its contract. The loop's invariant: `i` classes are taken, and those free are neither taken nor in
 -- `all`. Assumes nothing.
-use Prim.Native.Nat.{◌-◌}
 use native.Mathlib.Omega.{arith}
 use Rattle.search.proofs.LowerLimits.{taking_none, taking_more, taken, too_few}
 use Rattle.search.proofs.limits.extra_classes.Goals as goal

@@ -1,6 +1,5 @@
 -- `search::limits::limits_reached` meets its contract. The loop has nothing to remember: a limit that is not reached ends it. Assumes nothing.
 use mathlib.Core.Path.{refl}
-use Prim.Native.Nat.{◌-◌}
 use native.Mathlib.Omega.{arith}
 use Rattle.search.proofs.LowerLimits.{limits_short, limits_passed}
 use mathlib.Core.Bool.{not}

@@ -1,6 +1,5 @@
 -- `search::loads::loads_fit` meets its contract. The loop has nothing to remember: a load that cannot be kept to ends it. Assumes nothing.
 use mathlib.Core.Path.{refl}
-use Prim.Native.Nat.{◌-◌}
 use native.Mathlib.Omega.{arith}
 use Rattle.search.proofs.GreatestLoads.{loads_heavy, loads_passed}
 use mathlib.Core.Bool.{not}

@@ -1,5 +1,4 @@
 -- `search::loads::places_of` meets its contract. The loop's invariant: the steps passed have their places. Assumes nothing.
-use Prim.Native.Nat.{◌-◌}
 use native.Mathlib.Omega.{arith}
 use Rattle.search.proofs.GreatestLoads.{places_none, places_more, places_all}
 use Rattle.search.proofs.loads.places_of.Goals as goal

@@ -1,5 +1,5 @@
 -- `search::loads::repeated` meets its contract. The loop's invariant: the classes have the places passed. Assumes nothing.
-use Prim.Native.Nat.{◌*◌, ◌-◌, ◌<◌}
+use Prim.Native.Nat.{◌*◌, ◌<◌}
 use native.Mathlib.Omega.{arith}
 use Rattle.search.proofs.GreatestLoads.{place_below, repeated_none, repeated_more, repeated_all}
 use Rattle.search.proofs.loads.repeated.Goals as goal

@@ -3,7 +3,6 @@ use mathlib.Core.Bool.{not, ◌&&◌}
 use mathlib.Core.Path.{refl, sym, subst, ◌∙◌, ap₂}
 use Prim.Native.Nat.{ℕ, ◌+◌, ◌^◌, ◌<◌}
 use native.Mathlib.Omega.{arith}
-use borrow.Author.Rules.{rules}
 use borrow.Author.Tests.{ltb-true}
 use Rattle.bits.proofs.Below.{true-false}
 use Rattle.bits.specs.Below.{count}

@@ -1,6 +1,5 @@
 -- `search::opposed::excludes_some` meets its contract. Assumes nothing.
 use mathlib.Core.Path.{refl}
-use Prim.Native.Nat.{◌-◌}
 use native.Mathlib.Omega.{arith}
 use Rattle.bits.proofs.Below.{true-false}
 use Rattle.search.proofs.opposed.excludes_some.Goals as goal

@@ -1,5 +1,4 @@
 -- `search::pairs::inside` meets its contract. The loop's invariant: the classes of the people passed are inside. Assumes nothing.
-use Prim.Native.Nat.{◌-◌}
 use native.Mathlib.Omega.{arith}
 use Rattle.search.proofs.PairedLoads.{inside_none, inside_more, inside-all}
 use Rattle.search.proofs.pairs.inside.Goals as goal

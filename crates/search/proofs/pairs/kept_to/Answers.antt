@@ -1,5 +1,4 @@
 -- `search::pairs::kept_to` meets its contract. The loop's invariant: the steps passed have the places kept. Assumes nothing.
-use Prim.Native.Nat.{◌-◌}
 use native.Mathlib.Omega.{arith}
 use Rattle.search.proofs.PairedLoads.{kept_none, kept_more, kept_all}
 use Rattle.search.proofs.pairs.kept_to.Goals as goal

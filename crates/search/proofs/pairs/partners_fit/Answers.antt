@@ -1,6 +1,5 @@
 -- `search::pairs::partners_fit` meets its contract. The loop has nothing to remember: two loads that cannot be kept to end it. Assumes nothing.
 use mathlib.Core.Path.{refl}
-use Prim.Native.Nat.{◌-◌}
 use native.Mathlib.Omega.{arith}
 use Rattle.search.proofs.PairedLoads.{partners_heavy, partners_passed}
 use mathlib.Core.Bool.{not}

@@ -1,6 +1,6 @@
 -- `search::pairs::room_of` meets its contract. The loop's invariant: the places passed are in the room where their class has them. Assumes nothing.
 use mathlib.Core.Path.{subst}
-use Prim.Native.Nat.{ℕ, ◌*◌, ◌/◌, ◌≤◌, ◌-◌}
+use Prim.Native.Nat.{ℕ, ◌*◌, ◌/◌, ◌≤◌}
 use native.Mathlib.Omega.{arith}
 use native.Mathlib.Nat.{mod-le, mul-le-mul_right}
 use Rattle.search.proofs.PairedLoads.{room_none, room_past, room_more, room_all}

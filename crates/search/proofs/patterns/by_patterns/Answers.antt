@@ -1,7 +1,6 @@
 -- `search::patterns::by_patterns` meets its contract. Assumes nothing.
 use mathlib.Core.Bool.{false}
 use mathlib.Core.Path.{refl, sym}
-use borrow.Author.Rules.{rules}
 use Rattle.workflow.specs.Same.{SamePlans}
 use Rattle.workflow.proofs.Same.{same_trans}
 use Rattle.levels.specs.Tabled.{tabled_job}
@@ -35,11 +34,10 @@ returns-then-opposed c =
     )
 
 pub returns-then-not-staffed : goal.returns-then-not-staffed
-returns-then-not-staffed c =
-    (
-      existence_unstaffed c.requires.0.tabled.given.ruled c.args.may.now c.args.plan.now c.requires.3 c.staffed.result c.staffed.ensures (ap not c.if-not-staffed.true),
-      c.requires.2,
-    )
+returns-then-not-staffed c = (
+  existence_unstaffed c.requires.0.tabled.given.ruled c.args.may.now c.args.plan.now c.requires.3 c.staffed.result c.staffed.ensures (ap not c.if-not-staffed.true),
+  c.requires.2,
+)
 
 pub eligible-requires : goal.eligible-requires
 eligible-requires c =
@@ -48,12 +46,11 @@ eligible-requires c =
     (all_below c.below.ensures)
 
 pub returns-then-not-eligible : goal.returns-then-not-eligible
-returns-then-not-eligible c =
-    (
-      existence_ruled_out c.requires.0.tabled.given.ruled c.args.may.now c.requires.0.tabled.given.refining c.args.plan.now blank c.requires.3 c.below.result c.below.ensures
-          c.eligible.result c.eligible.ensures (ap not c.if-not-eligible.true),
-      c.requires.2,
-    )
+returns-then-not-eligible c = (
+  existence_ruled_out c.requires.0.tabled.given.ruled c.args.may.now c.requires.0.tabled.given.refining c.args.plan.now blank c.requires.3 c.below.result c.below.ensures
+      c.eligible.result c.eligible.ensures (ap not c.if-not-eligible.true),
+  c.requires.2,
+)
 
 -- the job by the numbers of its classes
 classed : (c : Start) → let t = c.args.tables in Classed t.size t.class t.rule
@@ -116,13 +113,12 @@ pairs_fit-requires c =
     (p.tabled.given.ruled, p.tabled.given.few_people, p.numbers.sized, c.reaches-reach.ensures.sized)
 
 pub returns-then-not-pairs_fit : goal.returns-then-not-pairs_fit
-returns-then-not-pairs_fit c =
-    (
-      existence_moves (same c.before.before.before.before.before.before.before.before.before.before.before.before.before.before.before.before) (may_in c.args.may.now)
-          (existence_overloaded (given c.before.before.before.before.before.before.before.before.before.before.before.before.before.before.before.before).ruled (nested_small (given c.before.before.before.before.before.before.before.before.before.before.before.before.before.before.before.before)) c.args.may.now (offers c.before.before.before.before.before.before.before.before.before.before.before.before.before) c.args.tables.class (nested_number (classed c.before.before.before.before.before.before.before.before.before.before.before.before.before.before.before.before.before.before.before.before.before.before.before.before.before.before.before.before.before.before.before.before.before) c.nests-nest.ensures) c.args.plan.now c.requires.3
-          c.pairs_fit.result c.pairs_fit.ensures (ap not c.if-not-pairs_fit.true)),
-      c.requires.2,
-    )
+returns-then-not-pairs_fit c = (
+  existence_moves (same c.before.before.before.before.before.before.before.before.before.before.before.before.before.before.before.before) (may_in c.args.may.now)
+      (existence_overloaded (given c.before.before.before.before.before.before.before.before.before.before.before.before.before.before.before.before).ruled (nested_small (given c.before.before.before.before.before.before.before.before.before.before.before.before.before.before.before.before)) c.args.may.now (offers c.before.before.before.before.before.before.before.before.before.before.before.before.before) c.args.tables.class (nested_number (classed c.before.before.before.before.before.before.before.before.before.before.before.before.before.before.before.before.before.before.before.before.before.before.before.before.before.before.before.before.before.before.before.before.before) c.nests-nest.ensures) c.args.plan.now c.requires.3
+      c.pairs_fit.result c.pairs_fit.ensures (ap not c.if-not-pairs_fit.true)),
+  c.requires.2,
+)
 
 pub named-rest-requires : goal.named-rest-requires
 named-rest-requires c = let t = c.requires.0.tabled in (t.given.ruled.few_steps, t.naming.sized)
@@ -140,12 +136,11 @@ find-requires c =
     )
 
 pub returns-then-not-find : goal.returns-then-not-find
-returns-then-not-find c =
-    (
-      existence_moves (same c.before.before.before.before.before.before.before.before.before.before.before.before.before.before.before.before.before.before.before.before.before.before.before.before.before.before.before) (may_in c.args.may.now)
-          (existence_lost c.requires.0.tabled.given.ruled c.args.may.now c.args.plan.now blank c.find.result c.requires.3 c.find.ensures.0 (ap not c.if-not-find.true)),
-      c.find.ensures.1,
-    )
+returns-then-not-find c = (
+  existence_moves (same c.before.before.before.before.before.before.before.before.before.before.before.before.before.before.before.before.before.before.before.before.before.before.before.before.before.before.before) (may_in c.args.may.now)
+      (existence_lost c.requires.0.tabled.given.ruled c.args.may.now c.args.plan.now blank c.find.result c.requires.3 c.find.ensures.0 (ap not c.if-not-find.true)),
+  c.find.ensures.1,
+)
 
 pub give_first-requires : goal.give_first-requires
 give_first-requires c =

@@ -1,5 +1,4 @@
 -- `search::patterns::give_first` meets its contract: the steps passed have their first people. Assumes nothing.
-use Prim.Native.Nat.{◌-◌}
 use native.Mathlib.Omega.{arith}
 use Rattle.search.proofs.Staff.{spread_more}
 use Rattle.search.proofs.patterns.give_first.Goals as goal

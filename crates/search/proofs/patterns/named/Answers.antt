@@ -1,6 +1,6 @@
 -- `search::patterns::named` meets its contract: the mask has the steps passed that a rule names. Assumes nothing.
 use mathlib.Core.Path.{◌≡◌, subst}
-use Prim.Native.Nat.{ℕ, ◌-◌}
+use Prim.Native.Nat.{ℕ}
 use native.Mathlib.Omega.{arith}
 use Rattle.search.proofs.Staff.{named_none, named_skip, named_take}
 use Rattle.search.specs.Existence.{Named}

@@ -1,5 +1,4 @@
 -- `search::patterns::staffed` meets its contract: the steps passed have somebody permitted. Assumes nothing.
-use Prim.Native.Nat.{◌-◌}
 use native.Mathlib.Omega.{arith}
 use borrow.Author.Count.{below_more}
 use Rattle.search.proofs.Staff.{foremost_person, foremost_nobody}

@@ -1,5 +1,4 @@
 -- `search::place::place` meets its contract: the levels passed have the grown labels. Assumes nothing.
-use Prim.Native.Nat.{◌-◌}
 use native.Mathlib.Omega.{arith}
 use Rattle.search.proofs.Growth.{growing_none, growing_more, growing_all}
 use Rattle.search.proofs.place.place.Goals as goal

@@ -1,6 +1,5 @@
 -- `search::refute::refuted_by_levels` meets its contract. Assumes nothing.
 use mathlib.Core.Path.{subst}
-use Prim.Native.Nat.{◌-◌}
 use native.Mathlib.Omega.{arith}
 use Rattle.search.proofs.Relaxing.{refuting_none}
 use Rattle.search.specs.Existence.{Refuting}

@@ -1,5 +1,4 @@
 -- `search::ways::by_rules` meets its contract. Assumes nothing.
-use Prim.Native.Nat.{◌-◌}
 use native.Mathlib.Omega.{arith}
 use Rattle.pattern.proofs.Given.{scope_small}
 use Rattle.search.proofs.ways.by_rules.Goals as goal

@@ -1,5 +1,4 @@
 -- `search::ways::heads_of` keeps to its arrays. Assumes nothing.
-use Prim.Native.Nat.{◌-◌}
 use native.Mathlib.Omega.{arith}
 use mathlib.Core.Path.{refl}
 use lib.ListN.{length-set}

@@ -1,5 +1,4 @@
 -- `search::ways::joinable` keeps to its arrays. Assumes nothing.
-use Prim.Native.Nat.{◌-◌}
 use native.Mathlib.Omega.{arith}
 use Rattle.search.proofs.ways.joinable.Goals as goal
 

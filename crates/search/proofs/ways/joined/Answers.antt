@@ -1,5 +1,4 @@
 -- `search::ways::joined` keeps to its arrays, and the groups left fall. Assumes nothing.
-use Prim.Native.Nat.{◌-◌}
 use native.Mathlib.Omega.{arith}
 use Rattle.search.proofs.ways.joined.Goals as goal
 

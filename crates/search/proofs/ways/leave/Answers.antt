@@ -1,5 +1,5 @@
 -- `search::ways::leave` keeps to its arrays, and the steps left fall. Assumes nothing.
-use Prim.Native.Nat.{◌-◌, ◌<◌}
+use Prim.Native.Nat.{◌<◌}
 use native.Mathlib.Omega.{arith}
 use lib.ListN.{length-set}
 use Rattle.search.proofs.ways.leave.Goals as goal

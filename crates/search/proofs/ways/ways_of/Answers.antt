@@ -1,5 +1,4 @@
 -- `search::ways::ways_of` meets its contract, which says nothing of the result: the ways are few enough to be counted. Assumes nothing.
-use Prim.Native.Nat.{◌-◌}
 use native.Mathlib.Omega.{arith}
 use Rattle.search.proofs.ways.ways_of.Goals as goal
 

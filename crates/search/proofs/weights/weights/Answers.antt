@@ -1,6 +1,5 @@
 -- `search::weights::weights` meets its contract. Assumes nothing.
 use mathlib.Core.Path.{refl}
-use Prim.Native.Nat.{◌-◌}
 use native.Mathlib.Omega.{arith}
 use lib.ListN.{length-set}
 use Rattle.search.proofs.weights.weights.Goals as goal

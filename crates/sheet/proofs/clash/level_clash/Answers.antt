@@ -1,6 +1,5 @@
 -- The invariant: no place passed has the clash, and each slot has the first of those passed. Assumes nothing.
 use native.Mathlib.Omega.{arith}
-use Prim.Native.Nat.{◌-◌}
 use mathlib.Core.Path.{sym, ◌∙◌}
 use Rattle.bits.proofs.SlotLaws.{firsts_none}
 use Rattle.sheet.specs.Read.{first_clash}

@@ -1,6 +1,5 @@
 -- The invariant: no place passed has the clash, and the slots of those passed are marked. Assumes nothing.
 use native.Mathlib.Omega.{arith}
-use Prim.Native.Nat.{◌-◌}
 use mathlib.Core.Path.{sym, ◌∙◌}
 use Rattle.sheet.specs.Read.{first_clash}
 use Rattle.bits.proofs.Scan.{passed_none, passed_more, passed_found, passed_all}

@@ -1,6 +1,5 @@
 -- The invariant: found says whether one of the places passed has the clash. Assumes nothing.
 use native.Mathlib.Omega.{arith}
-use Prim.Native.Nat.{◌-◌}
 use mathlib.Core.Path.{refl}
 use Rattle.bits.proofs.Scan.{any-zero, any_more, any-all}
 use Rattle.sheet.proofs.clash.tag_stood.Goals as goal

@@ -1,7 +1,6 @@
 -- `sheet::late::first_late` meets its contract. The invariant: none of the people passed has such a bit. Assumes nothing.
 use Rattle.sheet.proofs.Tests.{late_yes, late_no, late_is}
 use native.Mathlib.Omega.{arith}
-use Prim.Native.Nat.{◌-◌}
 use mathlib.Core.Path.{◌∙◌}
 use Rattle.bits.proofs.Scan.{passed_none, passed_more, passed_found, passed_all}
 use Rattle.sheet.proofs.late.first_late.Goals as goal

@@ -2,7 +2,6 @@
 use Rattle.sheet.specs.Read.{first_loose}
 use Rattle.sheet.proofs.Tests.{loose_is}
 use native.Mathlib.Omega.{arith}
-use Prim.Native.Nat.{◌-◌}
 use mathlib.Core.Bool.{not}
 use mathlib.Core.Path.{refl, ◌∙◌}
 use Rattle.bits.proofs.Scan.{passed_none, passed_more, passed_found, passed_all}

@@ -3,7 +3,6 @@ use lib.ListN.{length, take}
 use mathlib.Core.Path.{◌≡◌, sym, ◌∙◌}
 use Prim.Native.Nat.{◌<◌, ◌≤◌}
 use native.Mathlib.Omega.{arith}
-use borrow.Author.Rules.{rules}
 use borrow.Author.Tests.{ltb-true, ltb-false}
 use Rattle.sheet.specs.Cards.{Marking}
 use Rattle.sheet.specs.Read.{on_three}

@@ -1,6 +1,6 @@
 -- The invariant: the classes of the levels passed are filled in, and of this level those of the people passed. Assumes nothing.
 use native.Mathlib.Omega.{arith}
-use Prim.Native.Nat.{ℕ, suc, ◌+◌, ◌-◌}
+use Prim.Native.Nat.{ℕ, suc, ◌+◌}
 use mathlib.Core.Path.{◌≡◌, ◌∙◌, ap, subst}
 use lib.ListN.{get_or}
 use lib.Seq.{get_or-take}

@@ -1,7 +1,6 @@
 -- `sheet::tables::tags` meets its contract. The invariant: the tags of the first k cards are in the table. Assumes nothing.
 use lib.ListN.{length-set}
 use native.Mathlib.Omega.{arith}
-use Prim.Native.Nat.{◌-◌}
 use mathlib.Core.Path.{refl}
 use Rattle.sheet.proofs.Fill.{filled_none, filled_more, filled_all}
 use Rattle.sheet.proofs.tables.tags.Goals as goal

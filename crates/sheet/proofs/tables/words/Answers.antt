@@ -1,6 +1,5 @@
 -- The invariant: the first k cards are in the table. Assumes nothing.
 use native.Mathlib.Omega.{arith}
-use Prim.Native.Nat.{◌-◌}
 use mathlib.Core.Path.{refl}
 use Rattle.sheet.proofs.Fill.{filled_none, filled_more, filled_all}
 use Rattle.sheet.proofs.tables.words.Goals as goal

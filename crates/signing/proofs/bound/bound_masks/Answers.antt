@@ -1,6 +1,5 @@
 -- The invariant: the masks of the steps passed are bound. Assumes nothing.
 use native.Mathlib.Omega.{arith}
-use Prim.Native.Nat.{◌-◌}
 use mathlib.Core.Path.{refl}
 use Rattle.signing.proofs.Binding.{bound_none, bound_more, bound_all}
 use Rattle.signing.proofs.bound.bound_masks.Goals as goal

@@ -1,6 +1,5 @@
 -- The invariant: the first k bytes are there, and zeros after them. Assumes nothing.
 use native.Mathlib.Omega.{arith}
-use Prim.Native.Nat.{◌-◌}
 use mathlib.Core.Path.{refl}
 use Rattle.sheet.proofs.Fill.{filled_none, filled_more}
 use Rattle.signing.proofs.Holding.{stored_all}

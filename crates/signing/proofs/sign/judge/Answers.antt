@@ -59,17 +59,15 @@ pub can_finish-requires : goal.can_finish-requires
 can_finish-requires c = fewer_rules (known c.before.before.before).readable (omega arith)
 
 pub returns-then-can_finish : goal.returns-then-can_finish
-returns-then-can_finish c =
-    (
-      omega arith,
-      sign_granted (known c.before.before.before.before.before) c.if-refusal-ne0.false _ _ c.with_signer-asked.ensures c.with_signer-more.ensures
-          (says_true c.can_finish.result _ c.can_finish.ensures c.if-can_finish.true),
-    )
+returns-then-can_finish c = (
+  omega arith,
+  sign_granted (known c.before.before.before.before.before) c.if-refusal-ne0.false _ _ c.with_signer-asked.ensures c.with_signer-more.ensures
+      (says_true c.can_finish.result _ c.can_finish.ensures c.if-can_finish.true),
+)
 
 pub returns : goal.returns
-returns c =
-    (
-      omega arith,
-      sign_ungranted (known c.before.before.before.before.before) c.if-refusal-ne0.false _ c.with_signer-asked.ensures
-          (says_false c.can_finish.result _ c.can_finish.ensures c.if-can_finish.false),
-    )
+returns c = (
+  omega arith,
+  sign_ungranted (known c.before.before.before.before.before) c.if-refusal-ne0.false _ c.with_signer-asked.ensures
+      (says_false c.can_finish.result _ c.can_finish.ensures c.if-can_finish.false),
+)
