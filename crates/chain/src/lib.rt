@@ -20,6 +20,7 @@ pub enum Ended {
 }
 
 // The first fault of a card, in the order in which they are tested; 0 for none.
+#[tactic(auto, unfolding(crate::specs::Walk::first_fault))]
 fn first_fault(reached: bool, full: bool, other: bool, bad: bool) -> u32
     ensures { result ≡ first_fault reached full other bad }
 {

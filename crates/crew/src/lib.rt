@@ -24,7 +24,7 @@ pub fn plan_job(job: SheetJob, people: usize, steps: usize, rules: usize) -> Pla
     first_plan(pose(job, people, steps, rules), &may)
 }
 
-// The crew call. Every byte of the buffer and the returned number are what `crewAnswer` gives.
+// The crew call. Every byte of the buffer and the returned number are what `crew_answer` gives.
 pub fn crew(sheet: &[u8], buffer: &mut [u8]) -> u32
     ensures { (result ≡ (crew_answer sheet.now buffer.old).number) × (buffer.new ≡ (crew_answer sheet.now buffer.old).bytes) }
 {

@@ -67,7 +67,7 @@ pub fn try_every(job: SheetJob, people: usize, steps: usize, rules: usize) -> Tr
     }
 }
 
-// The crew call, by trying every plan. Every byte of the buffer and the returned number are what `crewAnswer` gives.
+// The crew call, by trying every plan. Every byte of the buffer and the returned number are what `crew_answer` gives.
 pub fn crew_by_trial(sheet: &[u8], buffer: &mut [u8]) -> u32
     ensures { (result ≡ (crew_answer sheet.now buffer.old).number) × (buffer.new ≡ (crew_answer sheet.now buffer.old).bytes) }
 {

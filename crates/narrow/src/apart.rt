@@ -46,7 +46,8 @@ pub fn apart(crowd: &Crowds, level: usize, steps: u16, used: u64, dom: &Domains)
         left = next.rest;
         let s = next.first;
         let reached = reach(crowd, level, dom[s]);
-        if reached & all != 0 {
+        let shared = reached & all;
+        if shared != 0 {
             continue;
         }
         all = all | reached;

@@ -17,6 +17,9 @@ struct Kept {
     count: usize,
 }
 
+// The mark of a step that is skipped.
+const SKIPPED: u8 = 1;
+
 // Those of the first `steps` steps that are not skipped.
 fn kept_steps(skipped: &[u8; MOST_CHAIN], steps: usize) -> Kept
     requires { (length skipped.now ≡ 64) × (steps ≤ 12) }
@@ -25,7 +28,7 @@ fn kept_steps(skipped: &[u8; MOST_CHAIN], steps: usize) -> Kept
     let mut step = [0u8; MOST_STEPS];
     let mut count = 0;
     for s in 0..steps {
-        if skipped[s] != 1 {
+        if skipped[s] != SKIPPED {
             step[count] = s as u8;
             count += 1;
         }

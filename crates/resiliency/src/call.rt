@@ -61,7 +61,8 @@ fn write_count(tag: &[u32; 64], cap: u32, count: Spared, out: &mut [u8]) -> u32
 pub fn spare(sheet: &[u8], answer: &mut [u8], cap: u32) -> u32
     ensures { Left (spare_answer cap sheet.now answer.old) result answer.new }
 {
-    if cap > MOST_AWAY {
+    let over = cap > MOST_AWAY;
+    if over {
         return returned(CAP_FAULT, 0);
     }
     let read = read_job(sheet);
@@ -74,7 +75,8 @@ pub fn spare(sheet: &[u8], answer: &mut [u8], cap: u32) -> u32
     else {
         return number(reading);
     };
-    if answer.len() < SPARE_BYTES {
+    let short = answer.len() < SPARE_BYTES;
+    if short {
         return returned(SHORT_FAULT, 0);
     }
     let job = read.job;

@@ -83,6 +83,7 @@ fn fill_job(
 
 // The first that was found of a tag on two `people`, a tag on two `steps`, one of the `classes` in two and a `loose` card,
 // counted from 1; 0 for none of them.
+#[tactic(auto, unfolding(crate::specs::Cards::first_of_four))]
 fn first_found(people: bool, steps: bool, classes: bool, loose: bool) -> u32
     ensures { result ≡ first_of_four people steps classes loose }
 {

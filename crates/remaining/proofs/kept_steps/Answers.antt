@@ -9,7 +9,7 @@ use Rattle.remaining.specs.Arrays.{Keeps}
 use Rattle.remaining.specs.Kept.{kept_below}
 use Rattle.remaining.proofs.Keeping.{keeps_as, keeps_none, keeps_room, keeps_out, keeps_on}
 use Rattle.remaining.proofs.kept_steps.Goals as goal
-use Rattle.remaining.proofs.kept_steps.Goals.{then-skipped-s-ne1, else-skipped-s-ne1}
+use Rattle.remaining.proofs.kept_steps.Goals.{then-skipped-s-ne-SKIPPED, else-skipped-s-ne-SKIPPED}
 
 pub loop-s-init : goal.loop-s-init
 loop-s-init c = (keeps_none _, omega arith)
@@ -35,9 +35,9 @@ loop-s-smaller c = omega arith
 pub loop-s-preserved : goal.loop-s-preserved
 loop-s-preserved c =
     let i = c.loop-s.invariant in (
-      elim c.if-skipped-s-ne1.branch [
-        | then-skipped-s-ne1 w ↦ keeps_as (keeps_on _ _ _ _ i.0 (omega arith) (ne_eqb _ _ w.if-skipped-s-ne1.true)) w.step-is w.count-is
-        | else-skipped-s-ne1 w ↦ keeps_as (keeps_out _ _ _ _ i.0 (eq-eqb _ _ w.if-skipped-s-ne1.false)) w.step-is w.count-is
+      elim c.if-skipped-s-ne-SKIPPED.branch [
+        | then-skipped-s-ne-SKIPPED w ↦ keeps_as (keeps_on _ _ _ _ i.0 (omega arith) (ne_eqb _ _ w.if-skipped-s-ne-SKIPPED.true)) w.step-is w.count-is
+        | else-skipped-s-ne-SKIPPED w ↦ keeps_as (keeps_out _ _ _ _ i.0 (eq-eqb _ _ w.if-skipped-s-ne-SKIPPED.false)) w.step-is w.count-is
       ],
       omega arith,
     )

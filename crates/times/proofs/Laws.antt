@@ -1,16 +1,14 @@
 -- Hours, minutes and sign of a number read back to it; a difference of two sums fits. Assumes nothing.
-use mathlib.Core.Bool.{true, false}
 use mathlib.Core.Path.{◌≡◌, refl, sym, ◌∙◌, ap, ap₂, subst}
-use Prim.Native.Nat.{ℕ, zero, suc, ◌+◌, ◌*◌, ◌/◌, ◌%◌, ◌-◌, ◌<◌, ◌≤◌}
+use Prim.Native.Nat.{ℕ, zero, suc, ◌+◌, ◌*◌, ◌/◌, ◌%◌, ◌-◌, ◌<◌}
 use native.Mathlib.Omega.{arith}
 use lib.Dec.{ltb}
-use lib.IntN.{ℤ, pos, negsuc, neg_ℤ, ◌+ℤ◌, ◌-ℤ◌, sub_ℕ, +ℤ_idr}
+use lib.IntN.{ℤ, pos, negsuc, neg_ℤ, ◌-ℤ◌, sub_ℕ, +ℤ_idr}
 use mir.Syntax.{w32}
 use mir.Val.{SFits}
 use mir.ValLaws.{to_z-of_z}
-use borrow.Author.Tests.{ltb-true, ltb-false}
 use Rattle.bits.proofs.Below.{by_cases, true-false}
-use Rattle.times.specs.Time.{time_of, Exact, EveryTime, Natural}
+use Rattle.times.specs.Time.{time_of, EveryTime, Natural}
 use Rattle.times.proofs.Size.{again}
 
 split : (n : ℕ) → 60 * (n / 60) + n % 60 ≡ n

@@ -1,5 +1,6 @@
 // Minutes as hours and minutes, with the sign apart.
 #![tactic(auto)]
+
 ghost use mathlib.Core.Path.{◌≡◌};
 ghost use lib.IntN.{◌-ℤ◌, nat_abs};
 ghost use Rattle.times.specs.Time.{time_of, Natural};

@@ -1,7 +1,7 @@
 -- What is printed of a line: "tag, quoted, taken, and taken minutes less quoted minutes, negative when quicker, all as hours:minutes". Assumes nothing.
 use mathlib.Core.List.{List}
 use Prim.Native.Nat.{ℕ}
-use lib.IntN.{ℤ, pos, ◌-ℤ◌}
+use lib.IntN.{pos, ◌-ℤ◌}
 use lib.ListN.{get_or}
 use Rattle.times.specs.Time.{time_of}
 use Rattle.ledger.specs.Entry.{Entry}

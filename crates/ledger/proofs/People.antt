@@ -1,8 +1,8 @@
 -- The people of the minutes book: each is met once, in order of first appearance. Assumes nothing.
-use mathlib.Core.Bool.{Bool, true, false, cond, ◌||◌}
+use mathlib.Core.Bool.{true, false}
 use mathlib.Core.List.{List, [], ◌∷◌, ◌++◌}
 use mathlib.Core.Path.{◌≡◌, refl, sym, ◌∙◌, ap, subst}
-use Prim.Native.Nat.{ℕ, suc, ◌+◌, ◌<◌, ◌≤◌}
+use Prim.Native.Nat.{ℕ, ◌+◌, ◌<◌, ◌≤◌}
 use native.Mathlib.Omega.{arith}
 use native.Mathlib.Nat.{not-suc-le-zero}
 use lib.Dec.{eqb}
@@ -11,7 +11,7 @@ use lib.Seq.{get_or-append_seam}
 use borrow.Author.Tests.{eqb-true, eq-eqb}
 use Rattle.bits.specs.Below.{first}
 use Rattle.bits.specs.Member.{member}
-use Rattle.bits.proofs.Below.{by_cases, below_suc, true-false, first_has, first_none, first-le}
+use Rattle.bits.proofs.Below.{by_cases, below_suc, true-false, first_has, first_none}
 use Rattle.bits.proofs.Counting.{is_false}
 use Rattle.bits.proofs.Masks.{or_left, or_right}
 use Rattle.bits.proofs.Member.{member_place, member_has, member-not, member-snoc}

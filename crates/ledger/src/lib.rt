@@ -1,5 +1,6 @@
 // The people of the minutes book and the sums of their minutes.
 #![tactic(auto)]
+
 ghost use mathlib.Core.List.{List, [], ◌∷◌, ◌++◌};
 ghost use mathlib.Core.Path.{◌≡◌};
 ghost use Prim.Native.Nat.{◌+◌, ◌<◌, ◌≤◌};
