@@ -11,6 +11,7 @@ import os
 import re
 import subprocess
 import sys
+import tempfile
 
 TOP = os.path.dirname(os.path.dirname(os.path.dirname(os.path.realpath(__file__))))
 NAME = r"[^\s(){}.;,@\"«»\[\]|`]+"
@@ -643,8 +644,7 @@ def convert_cycle(path, functions, module, sources, log):
                 def arg(m):
                     k = m[1].count(".1")
                     names = sources[d[1]]
-                    n, ref = names[k]
-                    return "l." + n + (".now" if ref and not m[0].endswith(".now") and False else "")
+                    return "l." + names[k][0]
                 body = re.sub(r"\ba((?:\.1)*)(?:\.0)?(?=[\s.)]|$)", arg, body)
                 invariants.append(f"abbrev pub decreases-{d[1]} : goal.decreases-{d[1]}\ndecreases-{d[1]} l = {body}")
             continue
@@ -870,8 +870,7 @@ def pruned(text):
 def main():
     for crate in sys.argv[1:]:
         folder = os.path.join(TOP, "crates", crate)
-        to = f"/tmp/names-{crate}"
-        subprocess.run(["rm", "-rf", to])
+        to = os.path.join(tempfile.mkdtemp(), "names")
         r = subprocess.run(["rt", "check", "--generated", to, "--old-names"], cwd=folder, capture_output=True, text=True)
         if not os.path.exists(to + "/names.json"):
             print(r.stdout[-3000:], r.stderr[-3000:])
