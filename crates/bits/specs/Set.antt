@@ -1,5 +1,5 @@
 -- Words as sets of the places of their set bits. Assumes nothing.
-use Rattle.std.specs.Prelude.{Bool, true, false, not, ◌&&◌, ◌||◌, ◌≡◌, List, ℕ, ◌^◌, ◌≤◌, ◌<◌, eqb, get_or}
+use Rattle.std.specs.Prelude.{Option, None, Some, Bool, true, false, not, ◌&&◌, ◌||◌, ◌≡◌, List, ℕ, ◌^◌, ◌≤◌, ◌<◌, eqb, get_or}
 use Rattle.bits.specs.Word.{has_bit}
 
 -- exactly one of two tests holds
@@ -42,3 +42,8 @@ pub record LeastKey (key : List ℕ) (m left i : ℕ) : Type 0 where
   pub has : has_bit m i ≡ true
   pub part : (j : ℕ) → has_bit left j ≡ true → has_bit m j ≡ true
   pub least : (j : ℕ) → has_bit m j ≡ true → has_bit left j ≡ false → get_or key i 0 ≤ get_or key j 0
+
+-- an element of m is given, the lowest, and r is m without it; or m has none, and neither has r
+abbrev pub Gives : ℕ → ℕ → Option ℕ → ℕ → Type 0
+Gives width m None r = (m ≡ 0) × (r ≡ 0)
+Gives width m (Some i) r = (i < width) × FirstAndRest m i r

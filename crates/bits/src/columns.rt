@@ -12,8 +12,6 @@ pub fn column(class: &ClassWords, level: usize) -> PersonWords
 {
     let top = (level - 1) * MOST_PEOPLE;
     let mut words = [0u16; MOST_PEOPLE];
-    for p in 0..MOST_PEOPLE {
-        words[p] = class[top + p];
-    }
+    words.copy_from_slice(&class[top..top + MOST_PEOPLE]);
     words
 }

@@ -2,10 +2,10 @@
 #![tactic(auto)]
 
 pub mod columns;
+pub mod least;
 pub mod set;
 pub mod sizes;
 pub mod slots;
-pub mod small;
 
 ghost use Rattle.std.specs.Prelude.{◌≡◌, ◌+◌, ◌<◌, length};
 ghost use Rattle.bits.specs.Word.{byte_at, word_at, long_at};

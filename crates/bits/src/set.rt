@@ -1,78 +1,154 @@
-// Sets of numbers below 64 as words: bit i says whether i is in the set.
-ghost use Rattle.std.specs.Prelude.{◌≡◌, ◌<◌, ◌≤◌, ltb};
+// Sets of numbers as words: bit i of a word says whether i is in the set. Sets of people are long words, sets of steps short ones.
+ghost use Rattle.std.specs.Prelude.{ℕ, ◌≡◌, ◌<◌, ◌≤◌, eqb, ltb};
 ghost use Rattle.std.specs.Int.Count.{ones};
+ghost use Rattle.std.specs.Iterator.{at_most};
 ghost use Rattle.bits.specs.Word.{has_bit};
-ghost use Rattle.bits.specs.Set.{Added, Removed, Lowest, FirstAndRest, Mask};
+ghost use Rattle.bits.specs.Set.{Added, Removed, Lowest, Mask, Gives};
 
 // All numbers below 64.
 pub const ALL: u64 = 0xffff_ffff_ffff_ffff;
 
-// Whether `i` is in `m`.
-pub fn has(m: u64, i: usize) -> bool
-    requires { i < 64 }
-    ensures { result ≡ has_bit m i }
-{
-    (m >> i) % 2 == 1
+// A word as a set.
+pub trait Set: Copy {
+    // The elements are below this.
+    ghost width: { ℕ };
+
+    ghost word: { Self → ℕ };
+
+    fn is_empty(self) -> bool
+        ensures { result ≡ eqb (word self) 0 };
+
+    fn has(self, i: usize) -> bool
+        requires { i < width }
+        ensures { result ≡ has_bit (word self) i };
+
+    // The set with `i`.
+    fn with(self, i: usize) -> Self
+        requires { i < width }
+        ensures { Added (word self) i (word result) };
+
+    // The set without `i`.
+    fn without(self, i: usize) -> Self
+        requires { i < width }
+        ensures { Removed (word self) i (word result) };
+
+    // The lowest element of a set that is not empty.
+    fn lowest(self) -> usize
+        requires { word self ≡ 0 → ⊥ }
+        ensures { (result < width) × Lowest (word self) result };
+
+    // All numbers below `n`.
+    fn below(n: usize) -> Self
+        requires { n ≤ width }
+        ensures { Mask (λ i. ltb i n) (word result) };
+
+    // How many elements the set has.
+    fn size(self) -> usize
+        ensures { (result ≡ ones (word self)) × (result ≤ width) };
 }
 
-// `m` with `i`.
-pub fn with(m: u64, i: usize) -> u64
-    requires { i < 64 }
-    ensures { Added m i result }
-{
-    m | (1 << i)
-}
+impl Set for u64 {
+    ghost width = { 64 };
 
-// `m` without `i`.
-pub fn without(m: u64, i: usize) -> u64
-    requires { i < 64 }
-    ensures { Removed m i result }
-{
-    let one: u64 = 1 << i;
-    (m | one) ^ one
-}
+    ghost word = { λ m. m };
 
-// The lowest element of `m`, which is not empty.
-pub fn lowest(m: u64) -> usize
-    requires { m ≡ 0 → ⊥ }
-    ensures { (result < 64) × Lowest m result }
-{
-    (u64::trailing_zeros(m) % 64) as usize
-}
+    fn is_empty(self) -> bool {
+        self == 0
+    }
 
-// The lowest element of a set, and the set without it.
-#[derive(Drop)]
-pub struct Taken {
-    pub first: usize,
-    pub rest: u64,
-}
+    fn has(self, i: usize) -> bool {
+        (self >> i) % 2 == 1
+    }
 
-// Takes the lowest element out of `m`, which is not empty.
-pub fn take(m: u64) -> Taken
-    requires { m ≡ 0 → ⊥ }
-    ensures { (result.first < 64) × FirstAndRest m result.first result.rest }
-{
-    let first = lowest(m);
-    Taken {
-        first: first,
-        rest: without(m, first),
+    fn with(self, i: usize) -> u64 {
+        self | (1 << i)
+    }
+
+    fn without(self, i: usize) -> u64 {
+        let one: u64 = 1 << i;
+        (self | one) ^ one
+    }
+
+    fn lowest(self) -> usize {
+        (u64::trailing_zeros(self) % 64) as usize
+    }
+
+    fn below(n: usize) -> u64 {
+        if n == 64 {
+            return ALL;
+        }
+        (1 << n) - 1
+    }
+
+    fn size(self) -> usize {
+        u64::count_ones(self) as usize
     }
 }
 
-// All numbers below `n`.
-pub fn below(n: usize) -> u64
-    requires { n ≤ 64 }
-    ensures { Mask (λ i. ltb i n) result }
-{
-    if n == 64 {
-        return ALL;
+impl Set for u16 {
+    ghost width = { 16 };
+
+    ghost word = { λ m. m };
+
+    fn is_empty(self) -> bool {
+        self == 0
     }
-    (1 << n) - 1
+
+    fn has(self, i: usize) -> bool {
+        (self >> i) % 2 == 1
+    }
+
+    fn with(self, i: usize) -> u16 {
+        self | (1 << i)
+    }
+
+    fn without(self, i: usize) -> u16 {
+        let one: u16 = 1 << i;
+        (self | one) ^ one
+    }
+
+    fn lowest(self) -> usize {
+        (u16::trailing_zeros(self) % 16) as usize
+    }
+
+    fn below(n: usize) -> u16 {
+        if n == 16 {
+            return 0xffff;
+        }
+        (1 << n) - 1
+    }
+
+    fn size(self) -> usize {
+        u16::count_ones(self) as usize
+    }
 }
 
-// How many elements `m` has.
-pub fn size(m: u64) -> usize
-    ensures { (result ≡ ones m) × (result ≤ 64) }
+// The elements of a set, the lowest first.
+#[derive(Clone, Copy)]
+pub struct Elements<S> {
+    pub left: S,
+}
+
+impl<S: Set> Iterator for Elements<S> {
+    type Item = usize;
+
+    ghost next_gives = { λ s r t. Gives S.width (S.word s.left) r (S.word t.left) };
+
+    ghost remaining = { λ s. at_most (S.word s.left) };
+
+    fn next(&mut self) -> Option<usize> {
+        if self.left.is_empty() {
+            return None;
+        }
+        let first = self.left.lowest();
+        self.left = self.left.without(first);
+        Some(first)
+    }
+}
+
+// The elements of a set, the lowest first.
+pub fn members<S: Set>(set: S) -> Elements<S>
+    ensures { result.left ≡ set }
 {
-    u64::count_ones(m) as usize
+    Elements { left: set }
 }

@@ -6,7 +6,7 @@ ghost use Rattle.bits.specs.Says.{Says};
 ghost use Rattle.pattern.specs.Rule.{scope_in, level_in, least_in, most_in, load_in, unpacked, Packed};
 ghost use Rattle.pattern.specs.Eligible.{CanBeMet};
 
-use bits::small;
+use bits::set::Set;
 
 // The mask of the steps of its scope.
 pub fn scope(rule: u32) -> u16
@@ -47,7 +47,7 @@ pub fn load(rule: u32) -> usize
 pub fn limits_load(rule: u32) -> bool
     ensures { result ≡ ltb (load_in rule) (ones (scope_in rule)) }
 {
-    load(rule) < small::size(scope(rule))
+    load(rule) < scope(rule).size()
 }
 
 // Whether a rule can be met with this count, which may still grow by `more`.

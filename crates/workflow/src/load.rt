@@ -4,18 +4,8 @@ ghost use Rattle.std.specs.Prelude.{◌≡◌, ℕ, ◌%◌, ◌^◌, ◌≤◌,
 ghost use Rattle.bits.specs.Word.{has_bit};
 ghost use Rattle.workflow.specs.Problem.{largest_load};
 
+use bits::set::members;
 use bits::sizes::{MOST_PEOPLE, MOST_STEPS};
-use bits::small;
-
-// The larger of two numbers.
-fn larger(a: u8, b: u8) -> u8
-    ensures { result ≡ max a b }
-{
-    if a < b {
-        return b;
-    }
-    a
-}
 
 // The largest number of these steps that have one label; a label is below 64.
 pub fn largest_load(steps: u16, label: &[u8; MOST_STEPS]) -> usize
@@ -24,15 +14,11 @@ pub fn largest_load(steps: u16, label: &[u8; MOST_STEPS]) -> usize
 {
     let mut held = [0u8; MOST_PEOPLE];
     let mut most: u8 = 0;
-    let mut left = steps;
-    while left != 0 {
-        let next = small::take(left);
-        left = next.rest;
-        let s = next.first;
+    for s in members(steps) {
         let v = (label[s] % 64) as usize;
         let now = held[v] + 1;
         held[v] = now;
-        most = larger(most, now);
+        most = most.max(now);
     }
     most as usize
 }

@@ -1,7 +1,0 @@
--- `bits::small::lowest` meets its contract: the trailing zeros of a word that is not 0 are its lowest element. Assumes nothing.
-use native.Mathlib.Omega.{arith}
-use Rattle.bits.proofs.SetLaws.{lowest_word}
-use Rattle.bits.proofs.small.lowest.Goals as goal
-
-pub returns : goal.returns
-returns c = lowest_word 16 c.args.m (omega arith) (omega arith) c.requires

@@ -1,6 +1,0 @@
--- `bits::small::without` meets its contract: the element is put in, and then out. Assumes nothing.
-use Rattle.bits.proofs.SetLaws.{removed_word}
-use Rattle.bits.proofs.small.without.Goals as goal
-
-pub returns : goal.returns
-returns c = removed_word 16 c.args.m c.args.i c.requires
