@@ -6,3 +6,4 @@ pub mod Same
 pub mod Labels
 pub mod Skipped
 pub mod Leaves
+pub mod Kinds

@@ -2,4 +2,5 @@
 #![tactic(auto)]
 
 pub mod count;
+pub mod kind;
 pub mod load;
