@@ -5,11 +5,10 @@ use native.Mathlib.Omega.{arith}
 use lib.Dec.{ltb}
 use lib.IntN.{ℤ, pos, negsuc, neg_ℤ, ◌-ℤ◌, sub_ℕ, +ℤ_idr}
 use mir.Syntax.{w32}
-use mir.Val.{SFits}
+use mir.Val.{SFits, to_z, of_z}
 use mir.ValLaws.{to_z-of_z}
 use Rattle.bits.proofs.Below.{by_cases, true-false}
 use Rattle.times.specs.Time.{time_of, EveryTime, Natural}
-use Rattle.times.proofs.Size.{again}
 
 split : (n : ℕ) → 60 * (n / 60) + n % 60 ≡ n
 split n = omega arith
@@ -41,7 +40,7 @@ difference_fits a zero k l = subst (SFits w32) (sym (+ℤ_idr (pos a))) (record 
 difference_fits a (suc b) k l = sub_fits a (suc b) k l
 
 -- as the machine reads them back from their bits, in either order
-pub natural_fits : (a b : ℤ) → SFits w32 a → SFits w32 b → Natural a → Natural b → SFits w32 (again a -ℤ again b)
+pub natural_fits : (a b : ℤ) → SFits w32 a → SFits w32 b → Natural a → Natural b → SFits w32 (to_z w32 (of_z w32 a) -ℤ to_z w32 (of_z w32 b))
 natural_fits a b f g s t =
     subst (SFits w32) (sym (ap₂ ◌-ℤ◌ (to_z-of_z w32 a f ∙ s.same) (to_z-of_z w32 b g ∙ t.same)))
     (difference_fits s.size t.size (subst (SFits w32) s.same f).sfits (subst (SFits w32) t.same g).sfits)

@@ -2,7 +2,7 @@
 #![tactic(auto)]
 
 ghost use mathlib.Core.Path.{◌≡◌};
-ghost use lib.IntN.{◌-ℤ◌, nat_abs};
+ghost use lib.IntN.{◌-ℤ◌};
 ghost use Rattle.times.specs.Time.{time_of, Natural};
 
 const HOUR: u32 = 60;
@@ -15,22 +15,11 @@ pub struct Time {
     pub minutes: u32,
 }
 
-// The size of a number of minutes.
-fn size_of(minutes: i32) -> u32
-    ensures { result ≡ nat_abs minutes }
-{
-    if minutes < 0 {
-        // The lowest number has no positive one of its size.
-        return (0 - (minutes + 1)) as u32 + 1;
-    }
-    minutes as u32
-}
-
 // A number of minutes, any at all.
 pub fn time_of(minutes: i32) -> Time
     ensures { result ≡ time_of minutes }
 {
-    let size = size_of(minutes);
+    let size = minutes.unsigned_abs();
     Time {
         negative: minutes < 0,
         hours: size / HOUR,
