@@ -9,20 +9,16 @@ ghost use Rattle.realize.specs.Parts.{ArraysSized};
 ghost use Rattle.realize.specs.Decision.{Staffing, Decided, Candidates, Hosted, Covering};
 
 use crate::parts::{Task, groups_of, members};
+use bits::set::{self, Set};
 use bits::sizes::{Domains, Labels, MOST_PEOPLE, MOST_STEPS, Nest, Reach};
-use bits::{set, small};
-use matching::{Cover, assign};
+use matching::{Places, assign};
 
 // Whether each step of `steps` has somebody in `people`.
 fn staffed(may: &Domains, steps: u16, people: u64) -> bool
     requires { (length may.now ≡ 12) × (steps < 4096) }
     ensures { Says result (Staffing (may_in may.now) (has_bit people) steps 0) }
 {
-    let mut rest = steps;
-    while rest != 0 {
-        let next = small::take(rest);
-        rest = next.rest;
-        let s = next.first;
+    for s in set::members(steps) {
         if may[s] & people == 0 {
             return false;
         }
@@ -36,11 +32,7 @@ fn candidates(reach: &Reach, q: usize, group: u16, inside: u64) -> u64
     ensures { Candidates reach.now q group inside 0 result }
 {
     let mut found = inside;
-    let mut rest = group;
-    while rest != 0 {
-        let next = small::take(rest);
-        rest = next.rest;
-        let s = next.first;
+    for s in set::members(group) {
         found = found & reach[q * MOST_STEPS + s];
     }
     found
@@ -57,15 +49,11 @@ fn hosts(may: &Domains, label: &Labels, nest: &Nest, reach: &Reach, task: Task, 
     if task.levels <= task.q + 1 {
         return row;
     }
-    if small::without(task.steps, g) == 0 {
+    if task.steps.without(g) == 0 {
         return row;
     }
     let mut found: u64 = 0;
-    let mut rest = row;
-    while rest != 0 {
-        let next = set::take(rest);
-        rest = next.rest;
-        let v = next.first;
+    for v in set::members(row) {
         let q = task.q + 1;
         let inside = nest[task.q * MOST_PEOPLE + v];
         let part = Task {
@@ -77,7 +65,7 @@ fn hosts(may: &Domains, label: &Labels, nest: &Nest, reach: &Reach, task: Task, 
         if !decide(may, label, nest, reach, part) {
             continue;
         }
-        found = set::with(found, v);
+        found = found.with(v);
     }
     found
 }
@@ -85,17 +73,19 @@ fn hosts(may: &Domains, label: &Labels, nest: &Nest, reach: &Reach, task: Task, 
 // A class for each group of level `q` + 1 inside the steps, among those that can host it and none
 // twice, where there are enough. A group without a host ends the search.
 #[cycle(cover_decide_hosts)]
-pub fn cover(may: &Domains, label: &Labels, nest: &Nest, reach: &Reach, task: Task) -> Cover
+pub fn cover(
+    may: &Domains,
+    label: &Labels,
+    nest: &Nest,
+    reach: &Reach,
+    task: Task,
+) -> Option<Places>
     requires { ArraysSized task.levels may.now label.now nest.now reach.now task.steps × (task.q < task.levels) }
-    ensures { Covering may.now label.now nest.now reach.now task result.found result.at }
+    ensures { Covering may.now label.now nest.now reach.now task result }
 {
     let heads = groups_of(label, task.q, task.steps);
     let mut edges = [0u64; MOST_STEPS];
-    let mut rest = heads;
-    while rest != 0 {
-        let next = small::take(rest);
-        rest = next.rest;
-        let g = next.first;
+    for g in set::members(heads) {
         let group = members(label, task.q, g as u8, task.steps);
         let part = Task {
             levels: task.levels,
@@ -105,10 +95,7 @@ pub fn cover(may: &Domains, label: &Labels, nest: &Nest, reach: &Reach, task: Ta
         };
         let row = hosts(may, label, nest, reach, part, g);
         if row == 0 {
-            return Cover {
-                found: false,
-                at: [0; MOST_STEPS],
-            };
+            return None;
         }
         edges[g] = row;
     }
@@ -124,6 +111,5 @@ pub fn decide(may: &Domains, label: &Labels, nest: &Nest, reach: &Reach, task: T
     if task.levels <= task.q {
         return staffed(may, task.steps, task.inside);
     }
-    let cover = cover(may, label, nest, reach, task);
-    cover.found
+    cover(may, label, nest, reach, task).is_some()
 }

@@ -16,7 +16,7 @@ ghost use Rattle.realize.specs.Filling.{Realizing};
 use crate::decision::decide;
 use crate::parts::Task;
 use crate::plan::fill;
-use bits::set;
+use bits::set::Set;
 use bits::sizes::{Domains, Labels, Nest, Plan, Reach};
 use pattern::Size;
 
@@ -29,7 +29,7 @@ fn whole(size: Size, placed: u16) -> Task
         levels: size.levels,
         q: 0,
         steps: placed,
-        inside: set::below(size.people),
+        inside: u64::below(size.people),
     }
 }
 

@@ -6,8 +6,8 @@ ghost use Rattle.pattern.specs.Realize.{fibre, groups};
 ghost use Rattle.bits.specs.Set.{Mask};
 ghost use Rattle.bits.specs.Sizes.{most_levels, label_entries};
 
+use bits::set::{self, Set};
 use bits::sizes::{Labels, MOST_STEPS};
-use bits::small;
 
 // The steps are to go to the classes of level `q` + 1 that are inside, or after the last level to the people, with
 // the labels of the levels below `q`.
@@ -36,15 +36,11 @@ fn labelled(label: &Labels, q: usize, steps: u16, own: bool, g: u8) -> u16
     ensures { Mask (λ s. has_bit steps s && eqb (label_in label.now (suc q) s) (cond own s g)) result }
 {
     let mut found: u16 = 0;
-    let mut rest = steps;
-    while rest != 0 {
-        let next = small::take(rest);
-        rest = next.rest;
-        let s = next.first;
+    for s in set::members(steps) {
         if label[q * MOST_STEPS + s] != wanted(own, s, g) {
             continue;
         }
-        found = small::with(found, s);
+        found = found.with(s);
     }
     found
 }

@@ -7,24 +7,20 @@ ghost use Rattle.realize.specs.Filling.{StaffedBy, Filled};
 
 use crate::decision::cover;
 use crate::parts::{Task, groups_of, members};
+use bits::set::{self, Set};
 use bits::sizes::{Domains, Labels, MOST_PEOPLE, Nest, Plan, Reach};
-use bits::{set, small};
 
 // Gives each step of `steps` the first of `people` who may do it.
 fn staff(may: &Domains, steps: u16, people: u64, plan: &mut Plan)
     requires { (length may.now ≡ 12) × (steps < 4096) × (length plan.old ≡ 12) }
     ensures { StaffedBy (may_in may.now) (has_bit people) steps 0 plan.old plan.new }
 {
-    let mut rest = steps;
-    while rest != 0 {
-        let next = small::take(rest);
-        rest = next.rest;
-        let s = next.first;
+    for s in set::members(steps) {
         let able = may[s] & people;
         if able == 0 {
             continue;
         }
-        plan[s] = set::lowest(able) as u8;
+        plan[s] = able.lowest() as u8;
     }
 }
 
@@ -38,17 +34,11 @@ pub fn fill(may: &Domains, label: &Labels, nest: &Nest, reach: &Reach, task: Tas
         staff(may, task.steps, task.inside, plan);
         return;
     }
-    let cover = cover(may, label, nest, reach, task);
-    if !cover.found {
+    let Some(at) = cover(may, label, nest, reach, task) else {
         return;
-    }
-    let at = cover.at;
+    };
     let heads = groups_of(label, task.q, task.steps);
-    let mut rest = heads;
-    while rest != 0 {
-        let next = small::take(rest);
-        rest = next.rest;
-        let g = next.first;
+    for g in set::members(heads) {
         let v = at[g] as usize;
         let group = members(label, task.q, g as u8, task.steps);
         let q = task.q + 1;
