@@ -7,6 +7,7 @@ use Rattle.pattern.specs.Tables.{may_in, label_in}
 use Rattle.pattern.specs.Realize.{Realized}
 use Rattle.bits.specs.Set.{Mask}
 use Rattle.bits.specs.Says.{Says}
+use Rattle.realize.specs.declared.parts.Layout.{Layout}
 use Rattle.realize.specs.declared.parts.Task.{Task}
 use Rattle.realize.specs.Parts.{Doable, groups_in, group_in, group_task, class_task, Part, TablesFor}
 
@@ -73,3 +74,17 @@ pub record Covering (may label nest reach : List ℕ) (t : Task) (found : Option
 pub record Realizable (people levels : ℕ) (may label nest reach : List ℕ) (placed : ℕ) (r : Bool) : Type 0 where
   pub says : (j : Job) → TablesFor j people levels may label nest reach placed
       → Says r (Realized j (may_in may) (label_in label) 0 (has_bit placed) (λ p. true))
+
+-- ---- the same of a layout's arrays
+
+abbrev pub DecidedIn : Layout → Task → Bool → Type 0
+DecidedIn l = Decided l.may.now l.label.now l.nest.now l.reach.now
+
+abbrev pub HostedIn : Layout → Task → ℕ → Type 0
+HostedIn l = Hosted l.may.now l.label.now l.nest.now l.reach.now
+
+abbrev pub CoveringIn : Layout → Task → Option (List ℕ) → Type 0
+CoveringIn l = Covering l.may.now l.label.now l.nest.now l.reach.now
+
+abbrev pub RealizableIn : ℕ → ℕ → Layout → ℕ → Bool → Type 0
+RealizableIn people levels l = Realizable people levels l.may.now l.label.now l.nest.now l.reach.now

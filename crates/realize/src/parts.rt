@@ -7,7 +7,7 @@ ghost use Rattle.bits.specs.Set.{Mask};
 ghost use Rattle.bits.specs.Sizes.{most_levels, label_entries};
 
 use bits::set::{self, Set};
-use bits::sizes::{Labels, MOST_STEPS};
+use bits::sizes::{Domains, Labels, MOST_STEPS, Nest, Reach};
 
 // The steps are to go to the classes of level `q` + 1 that are inside, or after the last level to the people, with
 // the labels of the levels below `q`.
@@ -17,6 +17,16 @@ pub struct Task {
     pub q: usize,
     pub steps: u16,
     pub inside: u64,
+}
+
+// What a pattern is tested by: the people who may do each step, the labels of the steps' groups, what lies inside each class, and the
+// classes with somebody for each step.
+#[derive(Clone, Copy)]
+pub struct Layout<'a> {
+    pub may: &'a Domains,
+    pub label: &'a Labels,
+    pub nest: &'a Nest,
+    pub reach: &'a Reach,
 }
 
 // The label that is looked for at step `s`: with `own` that is the step itself, else `g`.

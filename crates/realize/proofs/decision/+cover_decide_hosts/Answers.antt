@@ -94,12 +94,6 @@ hosts-overflow_mul-inside t c = omega (arith, c.in-Some.ensures.steps.0)
 pub hosts-overflow_add-inside : goal.hosts-overflow_add-inside
 hosts-overflow_add-inside t c = omega (arith, c.in-Some.ensures.steps.0)
 
-pub hosts-offset_bounds-nest-task : goal.hosts-offset_bounds-nest-task
-hosts-offset_bounds-nest-task t c = omega (arith, c.in-Some.ensures.steps.0)
-
-pub hosts-bounds-nest-task : goal.hosts-bounds-nest-task
-hosts-bounds-nest-task t c = omega (arith, c.in-Some.ensures.steps.0)
-
 pub hosts-decide-requires : goal.hosts-decide-requires
 hosts-decide-requires t c =
     (omega arith, c.requires.0)

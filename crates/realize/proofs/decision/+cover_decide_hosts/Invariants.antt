@@ -12,7 +12,7 @@ abbrev pub decreases-hosts : goal.decreases-hosts
 decreases-hosts l = let t = l.task in 3 * (t.levels - t.q)
 
 abbrev pub invariant-cover-loop-g : goal.invariant-cover-loop-g
-invariant-cover-loop-g l = Linked l.may l.label l.nest l.reach l.task l.heads l.g-iterator.left l.edges
+invariant-cover-loop-g l = Linked l.layout.may.now l.layout.label.now l.layout.nest.now l.layout.reach.now l.task l.heads l.g-iterator.left l.edges
 
 abbrev pub invariant-hosts-loop-v : goal.invariant-hosts-loop-v
-invariant-hosts-loop-v l = Hosting l.may l.label l.nest l.reach l.task l.row l.v-iterator.left l.found
+invariant-hosts-loop-v l = Hosting l.layout.may.now l.layout.label.now l.layout.nest.now l.layout.reach.now l.task l.row l.v-iterator.left l.found
