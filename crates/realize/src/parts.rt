@@ -1,5 +1,5 @@
 // What the recursion over the levels is asked, and the groups of a set of steps.
-ghost use Rattle.std.specs.Prelude.{cond, ◌&&◌, ◌≡◌, suc, ◌<◌, eqb, length};
+ghost use Rattle.std.specs.Prelude.{ℕ, Bool, ◌&&◌, ◌≡◌, suc, ◌<◌, length};
 ghost use Rattle.bits.specs.Word.{has_bit};
 ghost use Rattle.pattern.specs.Tables.{label_in};
 ghost use Rattle.pattern.specs.Realize.{fibre, groups};
@@ -29,28 +29,18 @@ pub struct Layout<'a> {
     pub reach: &'a Reach,
 }
 
-// The label that is looked for at step `s`: with `own` that is the step itself, else `g`.
-fn wanted(own: bool, s: usize, g: u8) -> u8
-    requires { s < 16 }
-    ensures { result ≡ cond own s g }
-{
-    if own {
-        return s as u8;
-    }
-    g
-}
-
-// Those of `steps` that have the label looked for at level `q` + 1.
-fn labelled(label: &Labels, q: usize, steps: u16, own: bool, g: u8) -> u16
-    requires { (length label.now ≡ label_entries) × (q < most_levels) × (steps < 4096) }
-    ensures { Mask (λ s. has_bit steps s && eqb (label_in label.now (suc q) s) (cond own s g)) result }
+// Those of `steps` whose label at level `q` + 1 is picked.
+fn labelled<F: Fn(usize, u8) -> bool>(label: &Labels, q: usize, steps: u16, picks: F) -> u16
+    requires sized { (length label.now ≡ label_entries) × (q < most_levels) × (steps < 4096) }
+    requires callable { F.IsAlwaysCallable picks }
+    ensures { (test : ℕ → ℕ → Bool) → ((s g : ℕ) (b : Bool) → F.post picks s g b → b ≡ test s g)
+        → Mask (λ s. has_bit steps s && test s (label_in label.now (suc q) s)) result }
 {
     let mut found: u16 = 0;
     for s in set::members(steps) {
-        if label[q * MOST_STEPS + s] != wanted(own, s, g) {
-            continue;
+        if picks(s, label[q * MOST_STEPS + s]) {
+            found = found.with(s);
         }
-        found = found.with(s);
     }
     found
 }
@@ -60,7 +50,7 @@ pub fn members(label: &Labels, q: usize, g: u8, steps: u16) -> u16
     requires { (length label.now ≡ label_entries) × (q < most_levels) × (steps < 4096) }
     ensures { Mask (fibre (has_bit steps) (label_in label.now (suc q)) g) result }
 {
-    labelled(label, q, steps, false, g)
+    labelled(label, q, steps, |_, group| group == g)
 }
 
 // The groups of level `q` + 1 inside `steps`: each is named by its label, which is one of its steps.
@@ -68,5 +58,5 @@ pub fn groups_of(label: &Labels, q: usize, steps: u16) -> u16
     requires { (length label.now ≡ label_entries) × (q < most_levels) × (steps < 4096) }
     ensures { Mask (groups (has_bit steps) (label_in label.now (suc q))) result }
 {
-    labelled(label, q, steps, true, 0)
+    labelled(label, q, steps, |s, group| group as usize == s)
 }
