@@ -57,10 +57,9 @@ fn hosts(layout: &Layout, task: Task, g: usize) -> u64
         let q = task.q + 1;
         let inside = layout.nest[task.q * MOST_PEOPLE + v];
         let part = Task {
-            levels: task.levels,
             q: q,
-            steps: task.steps,
             inside: inside,
+            ..task
         };
         if !decide(layout, part) {
             continue;
@@ -82,10 +81,8 @@ pub fn cover(layout: &Layout, task: Task) -> Option<Places>
     for g in set::members(heads) {
         let group = members(layout.label, task.q, g as u8, task.steps);
         let part = Task {
-            levels: task.levels,
-            q: task.q,
             steps: group,
-            inside: task.inside,
+            ..task
         };
         let row = hosts(layout, part, g);
         if row == 0 {

@@ -44,10 +44,10 @@ pub fn fill(layout: &Layout, task: Task, plan: &mut Plan)
         let q = task.q + 1;
         let inside = layout.nest[task.q * MOST_PEOPLE + v];
         let part = Task {
-            levels: task.levels,
             q: q,
             steps: group,
             inside: inside,
+            ..task
         };
         fill(layout, part, plan);
     }
