@@ -9,9 +9,8 @@ ghost use Rattle.narrow.specs.Loading.{Within, OneClass};
 
 use super::fixed::shared;
 use super::restrict::{Revision, restrict};
-use bits::set::ALL;
+use bits::set::{ALL, Set, members};
 use bits::sizes::{Crowds, Domains};
-use bits::small;
 use pattern::rule;
 
 // The steps of a scope that only people of the mask may do.
@@ -20,16 +19,12 @@ fn within(mask: u64, scope: u16, dom: &Domains) -> u16
     ensures { Within mask scope dom.now result }
 {
     let mut held: u16 = 0;
-    let mut left = scope;
-    while left != 0 {
-        let next = small::take(left);
-        left = next.rest;
-        let s = next.first;
+    for s in members(scope) {
         let domain = dom[s];
         if domain & mask != domain {
             continue;
         }
-        held = small::with(held, s);
+        held = held.with(s);
     }
     held
 }
@@ -42,7 +37,7 @@ fn close(mask: u64, r: u32, dom: &mut Domains) -> Revision
 {
     let scope = rule::scope(r);
     let held = within(mask, scope, dom);
-    let load = small::size(held);
+    let load = held.size();
     let highest = rule::load(r);
     if load > highest {
         return Revision {
@@ -67,11 +62,7 @@ pub fn by_load(crowd: &Crowds, r: u32, dom: &mut Domains) -> Revision
 {
     let level = rule::level(r);
     let mut changed: u16 = 0;
-    let mut left = rule::scope(r);
-    while left != 0 {
-        let next = small::take(left);
-        left = next.rest;
-        let s = next.first;
+    for s in members(rule::scope(r)) {
         let mask = shared(crowd, level, dom[s]);
         if mask == 0 {
             continue;

@@ -6,7 +6,7 @@ ghost use Rattle.narrow.specs.Domains.{Narrowed};
 
 use super::revise::revise;
 use super::sets::all_of;
-use bits::set;
+use bits::set::{Set, members};
 use bits::sizes::{Crowds, Domains, Naming, Rules};
 use pattern::Size;
 
@@ -27,15 +27,12 @@ pub fn propagate(
     requires { Tabled size crowd.now rule.now of.now × (length dom.old ≡ 12) }
     ensures { Narrowed (job_in size crowd.now rule.now) dom.old dom.new result }
 {
-    let mut waiting = pending;
-    while waiting != 0 {
+    let mut waiting = members(pending);
+    while let Some(i) = waiting.next() {
         if *effort == 0 {
             return true;
         }
         *effort = *effort - 1;
-        let next = set::take(waiting);
-        waiting = next.rest;
-        let i = next.first;
         if i >= size.rules {
             continue;
         }
@@ -43,7 +40,7 @@ pub fn propagate(
         if revision.failed {
             return false;
         }
-        waiting = set::without(waiting | all_of(revision.changed, of), i);
+        waiting.left = (waiting.left | all_of(revision.changed, of)).without(i);
     }
     true
 }
@@ -54,6 +51,6 @@ pub fn narrow_all(size: Size, crowd: &Crowds, rule: &Rules, of: &Naming, dom: &m
     ensures { Narrowed (job_in size crowd.now rule.now) dom.old dom.new result }
 {
     let mut effort = ENOUGH;
-    let all = set::below(size.rules);
+    let all = u64::below(size.rules);
     propagate(size, crowd, rule, of, all, dom, &mut effort)
 }

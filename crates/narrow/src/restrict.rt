@@ -2,8 +2,8 @@
 ghost use Rattle.std.specs.Prelude.{◌≡◌, ◌<◌, length};
 ghost use Rattle.narrow.specs.Narrowing.{Restricted};
 
+use bits::set::{Set, members};
 use bits::sizes::Domains;
-use bits::small;
 
 // Whether a rule can no longer be met, and the steps whose domains are smaller now.
 #[derive(Drop)]
@@ -18,11 +18,7 @@ pub fn restrict(steps: u16, people: u64, dom: &mut Domains) -> Revision
     ensures { Restricted steps people dom.old dom.new result.failed result.changed }
 {
     let mut changed: u16 = 0;
-    let mut left = steps;
-    while left != 0 {
-        let next = small::take(left);
-        left = next.rest;
-        let s = next.first;
+    for s in members(steps) {
         let domain = dom[s];
         let rest = domain & people;
         if rest == domain {
@@ -35,7 +31,7 @@ pub fn restrict(steps: u16, people: u64, dom: &mut Domains) -> Revision
             };
         }
         dom[s] = rest;
-        changed = small::with(changed, s);
+        changed = changed.with(s);
     }
     Revision {
         failed: false,

@@ -13,9 +13,8 @@ use super::fixed::{Forced, fixed};
 use super::load::by_load;
 use super::restrict::{Revision, restrict};
 use super::spread::spread;
-use bits::set::ALL;
+use bits::set::{ALL, Set, members};
 use bits::sizes::{Crowds, Domains};
-use bits::small;
 use pattern::rule;
 
 // Everybody who shares a class with somebody of the domain of each of these steps.
@@ -24,11 +23,7 @@ fn common(crowd: &Crowds, level: usize, steps: u16, dom: &Domains) -> u64
     ensures { ForClasses crowd.now level (λ people c. Common people c steps dom.now 0 result) }
 {
     let mut found = ALL;
-    let mut left = steps;
-    while left != 0 {
-        let next = small::take(left);
-        left = next.rest;
-        let s = next.first;
+    for s in members(steps) {
         found = found & reach(crowd, level, dom[s]);
     }
     found
@@ -56,7 +51,7 @@ fn upper(crowd: &Crowds, r: u32, forced: Forced, dom: &Domains) -> u64
         (λ people c. Limited people c forced.wide forced.used dom.now forced.count (most_in r) result) }
 {
     let parts = apart(crowd, rule::level(r), forced.wide, forced.used, dom);
-    let total = forced.count + small::size(parts.heads);
+    let total = forced.count + parts.heads.size();
     let highest = rule::most(r);
     if total > highest {
         return 0;
@@ -75,7 +70,7 @@ fn hopeless(crowd: &Crowds, r: u32, forced: Forced, dom: &Domains) -> bool
         (λ people c. Hopeless people c r forced.wide forced.used dom.now forced.count (ones forced.wide)) }
 {
     let groups = forced.count;
-    let open = small::size(forced.wide);
+    let open = forced.wide.size();
     if !rule::can_be_met(r, groups, open) {
         return true;
     }
@@ -96,7 +91,7 @@ fn allowed(crowd: &Crowds, r: u32, forced: Forced, dom: &Domains) -> u64
         (λ people c. Allowed people c r forced.wide forced.used dom.now forced.count (ones forced.wide) result) }
 {
     let groups = forced.count;
-    let open = small::size(forced.wide);
+    let open = forced.wide.size();
     let highest = rule::most(r);
     if groups == 0 {
         if highest == 1 {
