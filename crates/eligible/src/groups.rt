@@ -9,8 +9,8 @@ ghost use Rattle.pattern.specs.Tables.{label_in};
 ghost use Rattle.workflow.specs.Labels.{LabelsOf};
 ghost use Rattle.eligible.specs.Labels.{LabelRow, SmallLabels, LabelsReady};
 
+use bits::set::{Set, members};
 use bits::sizes::{Labels, MOST_STEPS};
-use bits::{set, small};
 use pattern::rule;
 use workflow::count::class_count;
 use workflow::load::largest_load;
@@ -22,13 +22,9 @@ pub fn labels_of(steps: u16, level: usize, label: &Labels) -> u64
         → LabelsOf n (has_bit steps) (label_in label.now level) result }
 {
     let top = (level - 1) * MOST_STEPS;
-    let mut left = steps;
     let mut labels: u64 = 0;
-    while left != 0 {
-        let next = small::take(left);
-        left = next.rest;
-        let s = next.first;
-        labels = set::with(labels, (label[top + s] % 64) as usize);
+    for s in members(steps) {
+        labels = labels.with((label[top + s] % 64) as usize);
     }
     labels
 }
@@ -50,11 +46,7 @@ fn row_of(steps: u16, level: usize, label: &Labels) -> [u8; MOST_STEPS]
 {
     let top = (level - 1) * MOST_STEPS;
     let mut row = [0u8; MOST_STEPS];
-    let mut left = steps;
-    while left != 0 {
-        let next = small::take(left);
-        left = next.rest;
-        let s = next.first;
+    for s in members(steps) {
         row[s] = label[top + s];
     }
     row

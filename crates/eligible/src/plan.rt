@@ -9,8 +9,8 @@ ghost use Rattle.pattern.specs.Number.{first_use};
 ghost use Rattle.eligible.specs.Classes.{OneLevel, ForClasses, ForJobs};
 
 use super::classes::mates;
+use bits::set::{Set, members};
 use bits::sizes::{Crowds, MOST_STEPS, Plan};
-use bits::{set, small};
 use pattern::rule;
 use workflow::count::class_count;
 use workflow::load::largest_load;
@@ -26,7 +26,7 @@ fn label_of(crowd: &Crowds, level: usize, plan: &Plan, s: usize) -> usize
     if class == 0 {
         return 0;
     }
-    set::lowest(class)
+    class.lowest()
 }
 
 // The count of a rule for a plan: how many different classes of its level the people of its steps have.
@@ -36,13 +36,10 @@ pub fn plan_count(crowd: &Crowds, r: u32, plan: &Plan) -> usize
         (λ j. OfPeople j (plan_in plan.now) → result ≡ class_count j (unpacked r) (plan_in plan.now)) }
 {
     let level = rule::level(r);
-    let mut left = rule::scope(r);
+    let scope = rule::scope(r);
     let mut labels: u64 = 0;
-    while left != 0 {
-        let next = small::take(left);
-        left = next.rest;
-        let s = next.first;
-        labels = set::with(labels, label_of(crowd, level, plan, s));
+    for s in members(scope) {
+        labels = labels.with(label_of(crowd, level, plan, s));
     }
     class_count(labels)
 }
@@ -55,11 +52,7 @@ fn plan_labels(crowd: &Crowds, r: u32, plan: &Plan) -> [u8; MOST_STEPS]
 {
     let level = rule::level(r);
     let mut labels = [0u8; MOST_STEPS];
-    let mut left: u16 = rule::scope(r);
-    while left != 0 {
-        let next = small::take(left);
-        left = next.rest;
-        let s = next.first;
+    for s in members(rule::scope(r)) {
         labels[s] = label_of(crowd, level, plan, s) as u8;
     }
     labels

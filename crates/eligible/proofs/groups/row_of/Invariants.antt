@@ -5,8 +5,5 @@ use Rattle.workflow.proofs.Labels.{Part}
 use Rattle.workflow.proofs.Tally.{Entered}
 use Rattle.eligible.proofs.groups.row_of.Given as goal
 
-abbrev pub invariant-loop-left : goal.invariant-loop-left
-invariant-loop-left l = Part l.steps l.left × (length l.row ≡ 12) × Entered l.steps (label_in l.label l.level) l.left l.row
-
-abbrev pub decreases-loop-left : goal.decreases-loop-left
-decreases-loop-left l = l.left
+abbrev pub invariant-loop-s : goal.invariant-loop-s
+invariant-loop-s l = Part l.steps l.s-iterator.left × (length l.row ≡ 12) × Entered l.steps (label_in l.label l.level) l.s-iterator.left l.row

@@ -6,23 +6,20 @@ use Rattle.workflow.proofs.Labels.{turn_below}
 use Rattle.eligible.proofs.Planned.{walked_none, walked_more, walked_all}
 use Rattle.eligible.proofs.plan.plan_count.Goals as goal
 
-pub loop-left-init : goal.loop-left-init
-loop-left-init c = walked_none c.scope-left.ensures
+pub loop-s-init : goal.loop-s-init
+loop-s-init c = rw c.into_iter-s-iterator.ensures.into_iter_gives (rw c.members-s-items.ensures (walked_none c.scope-scope.ensures))
 
 pub label_of-requires : goal.label_of-requires
 label_of-requires c = (
   subst (OneLevel _) (sym c.level-level.ensures.0) c.requires.0,
   c.requires.2,
-  turn_below (scope_in c.args.r) c.loop-left.invariant.part c.take-next.ensures.1 12 c.requires.1,
+  turn_below (scope_in c.args.r) c.loop-s.invariant.part c.in-Some.ensures.steps.1 12 c.requires.1,
 )
 
-pub loop-left-smaller : goal.loop-left-smaller
-loop-left-smaller c = c.take-next.ensures.1.less
-
-pub loop-left-preserved : goal.loop-left-preserved
-loop-left-preserved c =
-    walked_more c.loop-left.invariant c.take-next.ensures.1 c.level-level.ensures.0 c.label_of.ensures.0 c.with-labels.ensures
+pub loop-s-preserved : goal.loop-s-preserved
+loop-s-preserved c =
+    walked_more c.loop-s.invariant c.in-Some.ensures.steps.1 c.level-level.ensures.0 c.label_of.ensures.0 c.with-labels.ensures
 
 pub returns : goal.returns
 returns c =
-    (c.class_count.ensures.0, walked_all c.loop-left.invariant c.loop-left-test.false c.class_count.ensures.1)
+    (c.class_count.ensures.0, walked_all c.loop-s.invariant c.in-None.ensures.steps.0 c.class_count.ensures.1)
