@@ -3,6 +3,7 @@
 #![tactic(auto)]
 
 pub mod classes;
+mod figures;
 pub mod groups;
 pub mod plan;
 
