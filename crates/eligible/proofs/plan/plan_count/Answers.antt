@@ -10,14 +10,6 @@ use Rattle.eligible.specs.Classes.{ForClasses, OneLevel}
 use Rattle.eligible.proofs.Planned.{named, its_steps, name_at, plan_counted}
 use Rattle.eligible.proofs.plan.plan_count.Goals as goal
 
-pub label_set-labels-requires : goal.label_set-labels-requires
-label_set-labels-requires c =
-    let level : OneLevel c.args.crowd.now c.level-level.result = subst (OneLevel _) (sym c.level-level.ensures.0) c.requires.0 in
-    record {
-      may = λ s h. let below : s < 12 = has_below 12 c.scope-scope.result s (omega (arith, c.scope-scope.ensures, c.requires.1)) h in search rules;
-      small = λ s v h p. search rules;
-    }
-
 pub returns : goal.returns
 returns c =
     let a = c.args in
@@ -30,3 +22,11 @@ returns c =
           let name : ForClasses a.crowd.now c.level-level.result (λ people k. plan_in a.plan.now s < people → v ≡ first_use people k (plan_in a.plan.now s)) = search rules in
           name_at a.crowd.now a.plan.now a.r is s v c.level-level.ensures.0 name h size rule at within)),
     )
+
+pub label_set-labels-requires : goal.label_set-labels-requires
+label_set-labels-requires c =
+    let level : OneLevel c.args.crowd.now c.level-level.result = subst (OneLevel _) (sym c.level-level.ensures.0) c.requires.0 in
+    record {
+      may = λ s h. let below : s < 12 = has_below 12 c.scope-scope.result s (omega (arith, c.scope-scope.ensures, c.requires.1)) h in search rules;
+      small = λ s v h p. search rules;
+    }
