@@ -22,7 +22,7 @@ use Rattle.pattern.specs.Tables.{may_in, plan_in, rule_in, job_in}
 use Rattle.eligible.specs.Classes.{ForJobs}
 use Rattle.eligible.proofs.Names.{rule_at}
 use Rattle.backtrack.specs.Trial.{MeetsAll, Alone, TakesFirst, Trial}
-use Rattle.backtrack.specs.declared.Tried.TheVariants.{Found, Unsatisfiable}
+use Rattle.std.proofs.Common.{Ok, Some, None}
 
 -- a plan taken from the domains, one step more
 pub first_none : {people : ℕ} {dom plan : List ℕ} → length plan ≡ 12 → TakesFirst people 0 dom plan
@@ -87,17 +87,19 @@ module _ (j : Job) (dom plan : List ℕ) (a : Alone j.steps 0 dom) (t : TakesFir
   only : (σ : Plan) → Valid j (may_in dom) σ → Agree j.steps σ (plan_in plan)
   only σ v s l = a.one s _ _ l (empty_lacks s) (v.authorised s l) (t.among s l)
 
-  pub ended_found : (a : Bool) → MeetsAll j j.rules (plan_in plan) a → a ≡ true → Trial true j dom plan Found
+  pub ended_found : (a : Bool) → MeetsAll j j.rules (plan_in plan) a → a ≡ true → Trial true j dom (Ok (Some plan))
   unfolding Trial
-  ended_found a met e =
-      record {
-        valid = record { within = t.within; authorised = t.among; eligible = says_true a _ (met t.within) e };
-        first = λ wanted σ v e.
-            let x : σ e.at ≡ plan_in plan e.at = only σ v e.at e.below in
-            let y : σ e.at < plan_in plan e.at = e.less in
-            omega arith;
-      }
+  ended_found a met e = (
+    t.sized,
+    record {
+      valid = record { within = t.within; authorised = t.among; eligible = says_true a _ (met t.within) e };
+      first = λ wanted σ v e.
+          let x : σ e.at ≡ plan_in plan e.at = only σ v e.at e.below in
+          let y : σ e.at < plan_in plan e.at = e.less in
+          omega arith;
+    },
+  )
 
-  pub ended_none : (a : Bool) → MeetsAll j j.rules (plan_in plan) a → a ≡ false → Trial true j dom plan Unsatisfiable
+  pub ended_none : (a : Bool) → MeetsAll j j.rules (plan_in plan) a → a ≡ false → Trial true j dom (Ok None)
   unfolding Trial
   ended_none a met e (σ, v) = says_false a _ (met t.within) e (valid_agree j (may_in dom) σ (plan_in plan) (only σ v) v).eligible

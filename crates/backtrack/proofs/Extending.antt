@@ -20,9 +20,9 @@ use Rattle.workflow.specs.Problem.{Job, Plan, Valid}
 use Rattle.workflow.specs.First.{Earlier}
 use Rattle.pattern.specs.Tables.{may_in, plan_in}
 use Rattle.narrow.specs.Domains.{Fewer, Narrowed}
+use Rattle.std.proofs.Common.{Result, Ok, Err, Option, Some, None, is_err}
 use Rattle.backtrack.specs.Trial.{pinned, Alone, Others, Trial}
-use Rattle.backtrack.specs.declared.Tried.{Tried}
-use Rattle.backtrack.specs.declared.Tried.TheVariants.{Found, Unsatisfiable, Tired}
+use Rattle.backtrack.specs.declared.Tired.{Tired}
 
 -- a part of the domains permits less
 pub part_valid : (j : Job) (dom dom' : List ℕ) → Fewer dom dom' → (π : Plan) → Valid j (may_in dom') π → Valid j (may_in dom) π
@@ -30,32 +30,35 @@ part_valid j dom dom' f π v =
     record { within = v.within; authorised = λ s l. f.part s (π s) (v.authorised s l); eligible = v.eligible }
 
 -- what is found within narrowed domains is found within the whole
-pub narrowed_trial : (ordered : Bool) {j : Job} {dom dom' : List ℕ} (plan : List ℕ) {r : Bool} → Narrowed j dom dom' r → r ≡ true → (o : Tried)
-    → Trial ordered j dom' plan o → Trial ordered j dom plan o
+pub narrowed_trial : (ordered : Bool) {j : Job} {dom dom' : List ℕ} {r : Bool} → Narrowed j dom dom' r → r ≡ true → (o : Result (Option (List ℕ)) Tired)
+    → Trial ordered j dom' o → Trial ordered j dom o
 unfolding Trial
-narrowed_trial ordered {j} {dom} {dom'} plan n e Found t =
-    record {
-      valid = part_valid j dom dom' n.fewer (plan_in plan) t.valid;
-      first = λ wanted σ v x. t.first wanted σ (n.kept e σ v) x;
-    }
-narrowed_trial ordered plan n e Unsatisfiable t = λ (π, v). t (π, n.kept e π v)
-narrowed_trial ordered plan n e Tired t = tt
+narrowed_trial ordered {j} {dom} {dom'} n e (Ok (Some plan)) (sized, t) = (
+  sized,
+  record {
+    valid = part_valid j dom dom' n.fewer (plan_in plan) t.valid;
+    first = λ wanted σ v x. t.first wanted σ (n.kept e σ v) x;
+  },
+)
+narrowed_trial ordered n e (Ok None) t = λ (π, v). t (π, n.kept e π v)
+narrowed_trial ordered n e (Err _) t = tt
 
-pub narrowed_lost : (ordered : Bool) {j : Job} {dom dom' : List ℕ} (plan : List ℕ) {r : Bool} → Narrowed j dom dom' r → r ≡ false
-    → Trial ordered j dom plan Unsatisfiable
+pub narrowed_lost : (ordered : Bool) {j : Job} {dom dom' : List ℕ} {r : Bool} → Narrowed j dom dom' r → r ≡ false → Trial ordered j dom (Ok None)
 unfolding Trial
-narrowed_lost ordered plan n e (π, v) = n.lost e π v
+narrowed_lost ordered n e (π, v) = n.lost e π v
 
-pub trial_tired : (ordered : Bool) (j : Job) (dom plan : List ℕ) → Trial ordered j dom plan Tired
+-- a search that gave up
+pub trial_tired : (ordered : Bool) (j : Job) (dom : List ℕ) (o : Result (Option (List ℕ)) Tired) → is_err o ≡ true → Trial ordered j dom o
 unfolding Trial
-trial_tired ordered j dom plan = tt
+trial_tired ordered j dom (Ok r) e = true-false e refl
+trial_tired ordered j dom (Err _) e = tt
 
 -- the first plan is a plan
-pub trial_any : (ordered : Bool) (j : Job) (dom plan : List ℕ) (o : Tried) → Trial true j dom plan o → Trial ordered j dom plan o
+pub trial_any : (ordered : Bool) (j : Job) (dom : List ℕ) (o : Result (Option (List ℕ)) Tired) → Trial true j dom o → Trial ordered j dom o
 unfolding Trial
-trial_any ordered j dom plan Found t = record { valid = t.valid; first = λ wanted. t.first refl }
-trial_any ordered j dom plan Unsatisfiable t = t
-trial_any ordered j dom plan Tired t = tt
+trial_any ordered j dom (Ok (Some plan)) (sized, t) = (sized, record { valid = t.valid; first = λ wanted. t.first refl })
+trial_any ordered j dom (Ok None) t = t
+trial_any ordered j dom (Err _) t = tt
 
 -- one bit of a word
 pub own_bit : (n : ℕ) → n < 64 → (p : ℕ) → has_bit (1 * 2 ^ n % 18446744073709551616) p ≡ eqb p n
@@ -102,39 +105,37 @@ abbrev pub Before : ℕ → List ℕ → Type 0
 Before s dom = (t p p' : ℕ) → t < s → may_in dom t p ≡ true → may_in dom t p' ≡ true → p ≡ p'
 
 -- the people of `left` are still to be tried at step s: every plan has one of them there
-pub record Untried (j : Job) (s : ℕ) (dom plan : List ℕ) (left : ℕ) : Type 0 where
-  pub sized : length plan ≡ 12
+pub record Untried (j : Job) (s : ℕ) (dom : List ℕ) (left : ℕ) : Type 0 where
   pub part : (p : ℕ) → has_bit left p ≡ true → may_in dom s p ≡ true
   pub all : (π : Plan) → Valid j (may_in dom) π → has_bit left (π s) ≡ true
 
-pub untried_start : {j : Job} {s : ℕ} {dom plan : List ℕ} → s < j.steps → length plan ≡ 12 → Untried j s dom plan (get_or dom s 0)
-untried_start {s = s} l e = record { sized = e; part = λ p h. h; all = λ π v. v.authorised s l }
+pub untried_start : {j : Job} {s : ℕ} {dom : List ℕ} → s < j.steps → Untried j s dom (get_or dom s 0)
+untried_start {s = s} l = record { part = λ p h. h; all = λ π v. v.authorised s l }
 
-pub untried_none : {j : Job} {s : ℕ} {dom plan : List ℕ} {left : ℕ} → Untried j s dom plan left → left ≡ 0 → (ordered : Bool)
-    → Trial ordered j dom plan Unsatisfiable
+pub untried_none : {j : Job} {s : ℕ} {dom : List ℕ} {left : ℕ} → Untried j s dom left → left ≡ 0 → (ordered : Bool) → Trial ordered j dom (Ok None)
 unfolding Trial
 untried_none {s = s} {left = left} u e ordered (π, v) = true-false (u.all π v) (zero_empty left e (π s))
 
 -- p is tried next, of the people of `left`; in order, the steps before s have one person at most
-pub record NextPerson (ordered : Bool) (j : Job) (s : ℕ) (dom plan : List ℕ) (left p left' : ℕ) : Type 0 where
+pub record NextPerson (ordered : Bool) (j : Job) (s : ℕ) (dom : List ℕ) (left p left' : ℕ) : Type 0 where
   pub sized : length dom ≡ 12
   pub few : j.steps ≤ 12
   pub below : s < j.steps
-  pub untried : Untried j s dom plan left
+  pub untried : Untried j s dom left
   pub person : p < 64
   pub taken : FirstAndRest left p left'
   pub alone : ordered ≡ true → Before s dom
 
-module _ {ordered : Bool} {j : Job} {s : ℕ} {dom plan : List ℕ} {left p left' : ℕ} (c : NextPerson ordered j s dom plan left p left') where
+module _ {ordered : Bool} {j : Job} {s : ℕ} {dom : List ℕ} {left p left' : ℕ} (c : NextPerson ordered j s dom left p left') where
   low : s < 12
   low = omega (arith, c.below, c.few)
 
   -- the plans with p at s have failed
-  pub untried_next : {plan' : List ℕ} → length plan' ≡ 12 → Trial ordered j (pinned dom s p) plan' Unsatisfiable → Untried j s dom plan' left'
+  pub untried_next : {o : Option (List ℕ)} → o ≡ None → Trial ordered j (pinned dom s p) (Ok o) → Untried j s dom left'
   unfolding Trial
-  untried_next e fails =
+  untried_next is tried =
+      let fails = subst (λ (x : Option (List ℕ)). Trial ordered j (pinned dom s p) (Ok x)) is tried in
       record {
-        sized = e;
         part = λ x h. c.untried.part x (taken_was c.taken x h);
         all = λ π v.
             by_cases (eqb (π s) p)
@@ -143,20 +144,22 @@ module _ {ordered : Bool} {j : Job} {s : ℕ} {dom plan : List ℕ} {left p left
       }
 
   -- a plan with p at s is a plan; in order the first of them is the first of all
-  pub untried_found : (plan' : List ℕ) → Trial ordered j (pinned dom s p) plan' Found → Trial ordered j dom plan' Found
+  found_at : (plan' : List ℕ) → Trial ordered j (pinned dom s p) (Ok (Some plan')) → Trial ordered j dom (Ok (Some plan'))
   unfolding Trial
-  untried_found plan' w =
-      record {
-        valid = record {
-          within = w.valid.within;
-          authorised = λ t l.
-              by_cases (eqb t s)
-              (λ x. rw (eqb-true t s x) (subst (λ (y : ℕ). may_in dom s y ≡ true) (sym at) (c.untried.part p c.taken.lowest.has)))
-              (λ x. sym (pinned_other dom c.sized s p low c.person t (eqb-false t s x) (plan_in plan' t)) ∙ w.valid.authorised t l);
-          eligible = w.valid.eligible;
-        };
-        first = none;
-      }
+  found_at plan' (sized, w) = (
+    sized,
+    record {
+      valid = record {
+        within = w.valid.within;
+        authorised = λ t l.
+            by_cases (eqb t s)
+            (λ x. rw (eqb-true t s x) (subst (λ (y : ℕ). may_in dom s y ≡ true) (sym at) (c.untried.part p c.taken.lowest.has)))
+            (λ x. sym (pinned_other dom c.sized s p low c.person t (eqb-false t s x) (plan_in plan' t)) ∙ w.valid.authorised t l);
+        eligible = w.valid.eligible;
+      };
+      first = none;
+    },
+  )
     where
       -- the plan has p at s
       at : plan_in plan' s ≡ p
@@ -185,6 +188,9 @@ module _ {ordered : Bool} {j : Job} {s : ℕ} {dom plan : List ℕ} {left p left
           let l : s ≤ e.at = ltb-false _ _ z in
           let d : e.at ≡ s → ⊥ = eqb-false e.at s y in
           eqb-false (σ s) p x (e.before s (omega arith) ∙ at))))
+
+  pub untried_found : (plan' : List ℕ) {o : Option (List ℕ)} → o ≡ Some plan' → Trial ordered j (pinned dom s p) (Ok o) → Trial ordered j dom (Ok (Some plan'))
+  untried_found plan' is tried = found_at plan' (subst (λ (x : Option (List ℕ)). Trial ordered j (pinned dom s p) (Ok x)) is tried)
 
 pub pinned_sized : (dom : List ℕ) (s p : ℕ) → length dom ≡ 12 → length (pinned dom s p) ≡ 12
 pinned_sized dom s p e = length-set dom s _ ∙ e

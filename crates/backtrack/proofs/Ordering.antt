@@ -1,20 +1,21 @@
 -- The steps that have several people, and the one that comes next. Assumes nothing.
-use mathlib.Core.Bool.{true}
+use mathlib.Core.Bool.{Bool, true}
 use mathlib.Core.List.{List}
 use mathlib.Core.Path.{◌≡◌, sym, subst, ◌∙◌}
 use Prim.Native.Nat.{ℕ, ◌≤◌, ◌<◌}
 use native.Mathlib.Omega.{arith}
 use lib.Dec.{eqb, ltb}
-use lib.ListN.{get_or}
+use lib.ListN.{length, get_or}
 use borrow.Author.Tests.{eqb-true, eqb-false, ltb-true, lt-ltb}
 use Rattle.bits.specs.Word.{has_bit}
-use Rattle.bits.specs.Set.{Removed, Lowest, Mask}
+use Rattle.bits.specs.Set.{FirstAndRest, Removed, Lowest, Mask}
 use Rattle.bits.proofs.Below.{by_cases, true-false}
 use Rattle.bits.proofs.SetLaws.{zero_empty, removed_other, removed_was, part_le}
 use Rattle.bits.proofs.Masks.{bits_below}
+use Rattle.workflow.specs.Problem.{Job}
 use Rattle.backtrack.specs.Order.{Single, Several}
 use Rattle.backtrack.specs.Trial.{Alone, Others}
-use Rattle.backtrack.proofs.Extending.{Before}
+use Rattle.backtrack.proofs.Extending.{Before, NextPerson, Untried}
 
 -- nobody, or nobody but the first
 pub single_none : (domain : ℕ) → domain ≡ 0 → Single domain
@@ -85,3 +86,19 @@ alone_others a gone =
 -- before the first of the steps
 pub alone_before : {steps rest s : ℕ} {dom : List ℕ} → Alone steps rest dom → s < steps → Lowest rest s → Before s dom
 alone_before a b low t p p' l h k = a.one t p p' (omega arith) (low.before t l) h k
+
+-- the person who is tried next, at the step that comes next
+pub next_person : {ordered : Bool} {j : Job} {rest wide s : ℕ} {dom : List ℕ} {left p left' : ℕ} → length dom ≡ 12 → j.steps ≤ 12 → Alone j.steps rest dom
+    → Several rest dom wide → has_bit wide s ≡ true → (ordered ≡ true → Lowest wide s) → Untried j s dom left → p < 64 → FirstAndRest left p left'
+    → NextPerson ordered j s dom left p left'
+next_person sized few a w h low untried person taken =
+    let below = a.below _ (w.part _ h) in
+    record {
+      sized = sized;
+      few = few;
+      below = below;
+      untried = untried;
+      person = person;
+      taken = taken;
+      alone = λ e. alone_before (several_alone a w) below (low e);
+    }

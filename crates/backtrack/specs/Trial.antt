@@ -1,12 +1,11 @@
 -- What a search over people comes to. Assumes nothing.
-use Rattle.std.specs.Prelude.{Bool, true, false, List, ◌≡◌, ℕ, ◌*◌, ◌%◌, ◌^◌, ◌<◌, length, set}
+use Rattle.std.specs.Prelude.{Result, Ok, Err, Option, Some, None, Bool, true, false, List, ◌≡◌, ℕ, ◌*◌, ◌%◌, ◌^◌, ◌<◌, length, set}
 use Rattle.bits.specs.Says.{Says}
 use Rattle.bits.specs.Word.{has_bit}
 use Rattle.workflow.specs.Problem.{Job, May, Plan, OfPeople, Met, Valid, Satisfiable}
 use Rattle.workflow.specs.First.{Earlier}
 use Rattle.pattern.specs.Tables.{may_in, plan_in}
-use Rattle.backtrack.specs.declared.Tried.{Tried}
-use Rattle.backtrack.specs.declared.Tried.TheVariants.{Found, Unsatisfiable, Tired}
+use Rattle.backtrack.specs.declared.Tired.{Tired}
 
 -- whether a plan that gives each step one of the people meets the first n rules
 abbrev pub MeetsAll : Job → ℕ → Plan → Bool → Type 0
@@ -37,8 +36,8 @@ pub record Discovery (ordered : Bool) (j : Job) (may : May) (π : Plan) : Type 0
   pub valid : Valid j may π
   pub first : ordered ≡ true → (σ : Plan) → Valid j may σ → Earlier j.steps σ π → ⊥
 
--- what a search within domains comes to
-unfoldable pub Trial : Bool → Job → List ℕ → List ℕ → Tried → Type 0
-Trial ordered j dom plan Found = Discovery ordered j (may_in dom) (plan_in plan)
-Trial ordered j dom plan Unsatisfiable = Satisfiable j (may_in dom) → ⊥
-Trial ordered j dom plan Tired = Unit {0}
+-- what a search within domains comes to: a plan with a place for each of 12 steps, or that there is none; nothing is said where it gave up
+unfoldable pub Trial : Bool → Job → List ℕ → Result (Option (List ℕ)) Tired → Type 0
+Trial ordered j dom (Ok (Some plan)) = (length plan ≡ 12) × Discovery ordered j (may_in dom) (plan_in plan)
+Trial ordered j dom (Ok None) = Satisfiable j (may_in dom) → ⊥
+Trial ordered j dom (Err _) = Unit {0}

@@ -1,36 +1,39 @@
 // The end of a search: domains of one person each are a plan, and the rules are tested.
-ghost use Rattle.std.specs.Prelude.{true, ◌≡◌, ◌<◌, ◌≤◌, length};
+ghost use Rattle.std.specs.Prelude.{true, ◌≡◌, ◌<◌, ◌≤◌, length, IfSome};
 ghost use Rattle.bits.specs.Says.{Says};
 ghost use Rattle.workflow.specs.Problem.{OfPeople, Met};
 ghost use Rattle.pattern.specs.Rule.{level_in, scope_in, unpacked};
-ghost use Rattle.pattern.specs.Tables.{job_in, plan_in};
+ghost use Rattle.pattern.specs.Tables.{plan_in};
 ghost use Rattle.pattern.specs.Given.{Given};
+ghost use Rattle.levels.specs.Tabled.{tabled_job};
 ghost use Rattle.eligible.specs.Classes.{OneLevel, ForJobs};
 ghost use Rattle.backtrack.specs.Trial.{MeetsAll, Alone, TakesFirst, Trial};
 
-use super::Tried;
-use bits::set::lowest;
-use bits::sizes::{Crowds, Domains, Plan, Rules};
+use super::{Outcome, Tired};
+use bits::set::Set;
+use bits::sizes::{Crowds, Domains, MOST_STEPS, Plan};
 use eligible::plan::{plan_count, plan_light};
-use pattern::{Size, rule};
+use levels::Tables;
+use pattern::rule;
 
 // Gives each step the first of its domain, where that is one of the people.
-fn take_first(steps: usize, people: usize, dom: &Domains, plan: &mut Plan) -> bool
-    requires { (steps ≤ 12) × (length dom.now ≡ 12) × (length plan.old ≡ 12) }
-    ensures { (length plan.new ≡ 12) × (result ≡ true → TakesFirst people steps dom.now plan.new) }
+fn take_first(steps: usize, people: usize, dom: &Domains) -> Option<Plan>
+    requires { (steps ≤ 12) × (length dom.now ≡ 12) }
+    ensures { IfSome result (λ plan. TakesFirst people steps dom.now plan) }
 {
+    let mut plan = [0u8; MOST_STEPS];
     for s in 0..steps {
         let domain = dom[s];
         if domain == 0 {
-            return false;
+            return None;
         }
-        let p = lowest(domain);
+        let p = domain.lowest();
         if p >= people {
-            return false;
+            return None;
         }
         plan[s] = p as u8;
     }
-    true
+    Some(plan)
 }
 
 // Whether a plan meets a rule: its count and its largest load are compared.
@@ -46,13 +49,13 @@ fn meets(crowd: &Crowds, r: u32, plan: &Plan) -> bool
 }
 
 // Whether a plan meets all rules.
-fn meets_all(size: Size, crowd: &Crowds, rule: &Rules, plan: &Plan) -> bool
-    requires { Given size crowd.now rule.now × (length plan.now ≡ 12) }
-    ensures { MeetsAll (job_in size crowd.now rule.now) size.rules (plan_in plan.now) result }
+fn meets_all(tables: &Tables, plan: &Plan) -> bool
+    requires { Given tables.now.size tables.now.crowd tables.now.rule × (length plan.now ≡ 12) }
+    ensures { MeetsAll (tabled_job tables.now) tables.now.size.rules (plan_in plan.now) result }
 {
-    let rules = size.rules;
+    let rules = tables.size.rules;
     for i in 0..rules {
-        if !meets(crowd, rule[i], plan) {
+        if !meets(&tables.crowd, tables.rule[i], plan) {
             return false;
         }
     }
@@ -60,16 +63,15 @@ fn meets_all(size: Size, crowd: &Crowds, rule: &Rules, plan: &Plan) -> bool
 }
 
 // The plan of the domains, which have one person for each step.
-pub fn finish(size: Size, crowd: &Crowds, rule: &Rules, dom: &Domains, plan: &mut Plan) -> Tried
-    requires { Given size crowd.now rule.now × (length dom.now ≡ 12) × (length plan.old ≡ 12) × Alone size.steps 0 dom.now }
-    ensures { Trial true (job_in size crowd.now rule.now) dom.now plan.new result
-        × (length plan.new ≡ 12) }
+pub fn finish(tables: &Tables, dom: &Domains) -> Outcome
+    requires { Given tables.now.size tables.now.crowd tables.now.rule × (length dom.now ≡ 12) × Alone tables.now.size.steps 0 dom.now }
+    ensures { Trial true (tabled_job tables.now) dom.now result }
 {
-    if !take_first(size.steps, size.people, dom, plan) {
-        return Tried::Tired;
+    let Some(plan) = take_first(tables.size.steps, tables.size.people, dom) else {
+        return Err(Tired);
+    };
+    if !meets_all(tables, &plan) {
+        return Ok(None);
     }
-    if !meets_all(size, crowd, rule, plan) {
-        return Tried::Unsatisfiable;
-    }
-    Tried::Found
+    Ok(Some(plan))
 }

@@ -7,24 +7,22 @@ mod ends;
 mod order;
 
 ghost use Rattle.std.specs.Prelude.{◌≡◌, ◌<◌, length};
-ghost use Rattle.pattern.specs.Tables.{job_in};
-ghost use Rattle.levels.specs.Tabled.{Tabled};
+ghost use Rattle.levels.specs.Tabled.{Tabled, tabled_job};
 ghost use Rattle.backtrack.specs.Trial.{pinned, Alone, Others, Trial};
 
-use bits::sizes::{Crowds, Domains, Naming, Plan, Rules};
-use bits::{set, small};
+use bits::set::{Set, members};
+use bits::sizes::{Domains, Plan};
 use ends::finish;
+use levels::Tables;
 use narrow::propagate::propagate;
 use order::{next_step, several};
-use pattern::Size;
 
-// What came of a search: a plan, in order the first; that there is none; or nothing, the effort being spent.
-#[derive(Drop)]
-pub enum Tried {
-    Found,
-    Unsatisfiable,
-    Tired,
-}
+// A search that gave up, its effort being spent: nothing is known.
+#[derive(Clone, Copy, Debug, PartialEq, Eq)]
+pub struct Tired;
+
+// What came of a search: a plan, in order the first, or that there is none.
+pub type Outcome = Result<Option<Plan>, Tired>;
 
 // A step, the person it is given to, and the steps that are left then.
 #[derive(Clone, Copy)]
@@ -37,114 +35,66 @@ struct Choice {
 // A plan of the domains with the choice made; the other steps have one person at most, but for those left.
 #[cycle(branch_extend)]
 fn branch(
-    size: Size,
-    crowd: &Crowds,
-    rule: &Rules,
-    of: &Naming,
+    tables: &Tables,
     ordered: bool,
     choice: Choice,
     dom: &Domains,
     effort: &mut u32,
-    plan: &mut Plan,
-) -> Tried
-    requires { Tabled size crowd.now rule.now of.now × (length dom.now ≡ 12) × (length plan.old ≡ 12)
-        × Others size.steps choice.rest choice.step dom.now × (choice.step < size.steps) × (choice.person < 64) }
-    ensures { Trial ordered (job_in size crowd.now rule.now)
-        (pinned dom.now choice.step choice.person) plan.new result × (length plan.new ≡ 12) }
+) -> Outcome
+    requires { Tabled tables.now.size tables.now.crowd tables.now.rule tables.now.of × (length dom.now ≡ 12)
+        × Others tables.now.size.steps choice.rest choice.step dom.now × (choice.step < tables.now.size.steps) × (choice.person < 64) }
+    ensures { Trial ordered (tabled_job tables.now) (pinned dom.now choice.step choice.person) result }
 {
     let s = choice.step;
     let mut next = *dom;
     next[s] = 1 << choice.person;
-    if !propagate(size, crowd, rule, of, of[s], &mut next, effort) {
-        return Tried::Unsatisfiable;
+    if !propagate(tables, tables.of[s], &mut next, effort) {
+        return Ok(None);
     }
-    extend(
-        size,
-        crowd,
-        rule,
-        of,
-        ordered,
-        choice.rest,
-        &next,
-        effort,
-        plan,
-    )
+    extend(tables, ordered, choice.rest, &next, effort)
 }
 
 // A plan of the domains, where the steps but those of `rest` have one person at most.
 #[cycle(branch_extend)]
-fn extend(
-    size: Size,
-    crowd: &Crowds,
-    rule: &Rules,
-    of: &Naming,
-    ordered: bool,
-    rest: u16,
-    dom: &Domains,
-    effort: &mut u32,
-    plan: &mut Plan,
-) -> Tried
-    requires { Tabled size crowd.now rule.now of.now × (length dom.now ≡ 12) × (length plan.old ≡ 12)
-        × Alone size.steps rest dom.now }
-    ensures { Trial ordered (job_in size crowd.now rule.now)
-        dom.now plan.new result × (length plan.new ≡ 12) }
+fn extend(tables: &Tables, ordered: bool, rest: u16, dom: &Domains, effort: &mut u32) -> Outcome
+    requires { Tabled tables.now.size tables.now.crowd tables.now.rule tables.now.of × (length dom.now ≡ 12)
+        × Alone tables.now.size.steps rest dom.now }
+    ensures { Trial ordered (tabled_job tables.now) dom.now result }
 {
     let wide = several(rest, dom);
     if wide == 0 {
-        return finish(size, crowd, rule, dom, plan);
+        return finish(tables, dom);
     }
-    let s = next_step(ordered, of, dom, wide);
-    let others = small::without(wide, s);
-    let mut left = dom[s];
-    while left != 0 {
+    let s = next_step(ordered, &tables.of, dom, wide);
+    let others = wide.without(s);
+    for person in members(dom[s]) {
         if *effort == 0 {
-            return Tried::Tired;
+            return Err(Tired);
         }
         *effort = *effort - 1;
-        let next = set::take(left);
-        left = next.rest;
         let choice = Choice {
             step: s,
-            person: next.first,
+            person: person,
             rest: others,
         };
-        let tried = branch(size, crowd, rule, of, ordered, choice, dom, effort, plan);
-        match tried {
-            Tried::Found => {
-                return Tried::Found;
-            }
-            Tried::Tired => {
-                return Tried::Tired;
-            }
-            Tried::Unsatisfiable => {
-                continue;
-            }
+        if let Some(plan) = branch(tables, ordered, choice, dom, effort)? {
+            return Ok(Some(plan));
         }
     }
-    Tried::Unsatisfiable
+    Ok(None)
 }
 
 // A plan of a job, the first one if `ordered`, where it is found with this effort.
-pub fn attempt<'a>(
-    size: Size,
-    crowd: &'a Crowds,
-    rule: &'a Rules,
-    of: &'a Naming,
-    may: &Domains,
-    ordered: bool,
-    effort: u32,
-    plan: &mut Plan,
-) -> Tried
-    requires { Tabled size crowd.now rule.now of.now × (length may.now ≡ 12) × (length plan.old ≡ 12) }
-    ensures { Trial ordered (job_in size crowd.now rule.now) may.now plan.new result
-        × (length plan.new ≡ 12) }
+pub fn attempt(tables: &Tables, may: &Domains, ordered: bool, effort: u32) -> Outcome
+    requires { Tabled tables.now.size tables.now.crowd tables.now.rule tables.now.of × (length may.now ≡ 12) }
+    ensures { Trial ordered (tabled_job tables.now) may.now result }
 {
-    let all = set::below(size.rules);
+    let all = u64::below(tables.size.rules);
     let mut dom = *may;
     let mut rest = effort;
-    if !propagate(size, crowd, rule, of, all, &mut dom, &mut rest) {
-        return Tried::Unsatisfiable;
+    if !propagate(tables, all, &mut dom, &mut rest) {
+        return Ok(None);
     }
-    let steps = small::below(size.steps);
-    extend(size, crowd, rule, of, ordered, steps, &dom, &mut rest, plan)
+    let steps = u16::below(tables.size.steps);
+    extend(tables, ordered, steps, &dom, &mut rest)
 }

@@ -4,18 +4,18 @@ ghost use Rattle.bits.specs.Word.{has_bit};
 ghost use Rattle.bits.specs.Set.{Lowest};
 ghost use Rattle.backtrack.specs.Order.{Single, Several};
 
+use bits::least::least_key;
+use bits::set::{Set, members};
 use bits::sizes::{Domains, MOST_STEPS, Naming};
-use bits::{set, small};
 
 // Whether a domain has one person at most.
 fn single(domain: u64) -> bool
     ensures { result ≡ true → Single domain }
 {
-    if domain == 0 {
+    if domain.is_empty() {
         return true;
     }
-    let next = set::take(domain);
-    next.rest == 0
+    domain.without(domain.lowest()).is_empty()
 }
 
 // Those of some steps that have several people.
@@ -24,22 +24,18 @@ pub fn several(steps: u16, dom: &Domains) -> u16
     ensures { Several steps dom.now result }
 {
     let mut found = steps;
-    let mut left = steps;
-    while left != 0 {
-        let next = small::take(left);
-        left = next.rest;
-        let s = next.first;
+    for s in members(steps) {
         if !single(dom[s]) {
             continue;
         }
-        found = small::without(found, s);
+        found = found.without(s);
     }
     found
 }
 
 // The key of a step by its people and the rules that name it: the lowest comes first.
 fn key(domain: u64, rules: u64) -> u64 {
-    set::size(domain) as u64 * 1000 / (1 + set::size(rules) as u64)
+    domain.size() as u64 * 1000 / (1 + rules.size() as u64)
 }
 
 // The keys of some steps.
@@ -48,11 +44,7 @@ fn keys(of: &Naming, dom: &Domains, steps: u16) -> [u64; MOST_STEPS]
     ensures { length result ≡ 12 }
 {
     let mut all = [0u64; MOST_STEPS];
-    let mut left = steps;
-    while left != 0 {
-        let next = small::take(left);
-        left = next.rest;
-        let s = next.first;
+    for s in members(steps) {
         all[s] = key(dom[s], of[s]);
     }
     all
@@ -65,8 +57,8 @@ pub fn next_step(ordered: bool, of: &Naming, dom: &Domains, wide: u16) -> usize
     ensures { (result < 12) × (has_bit wide result ≡ true) × (ordered ≡ true → Lowest wide result) }
 {
     if ordered {
-        return small::lowest(wide);
+        return wide.lowest();
     }
     let order = keys(of, dom, wide);
-    small::least_key(&order, wide)
+    least_key(&order, wide)
 }

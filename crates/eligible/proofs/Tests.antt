@@ -3,9 +3,7 @@ use mathlib.Core.Bool.{Bool, true, false, not, ◌&&◌}
 use mathlib.Core.List.{List}
 use mathlib.Core.Path.{◌≡◌, sym, subst, ap, ◌∙◌}
 use Prim.Native.Nat.{ℕ, ◌^◌, ◌≤◌, ◌<◌}
-use native.Mathlib.Omega.{arith}
 use lib.Bits.{bit_and}
-use lib.Count.{ones}
 use lib.Dec.{eqb}
 use lib.ListN.{get_or}
 use borrow.Author.Tests.{eqb-true, eqb-false}
@@ -13,14 +11,11 @@ use Rattle.bits.specs.Below.{count}
 use Rattle.bits.specs.Says.{Says}
 use Rattle.bits.specs.Word.{has_bit}
 use Rattle.bits.specs.Set.{FirstAndRest}
-use Rattle.bits.proofs.Below.{by_cases, true-false, and_left}
-use Rattle.bits.proofs.Counting.{count_mono}
+use Rattle.bits.proofs.Below.{by_cases, true-false}
 use Rattle.bits.proofs.Masks.{taken_was, bits_below}
-use Rattle.bits.proofs.Ones.{ones_bits}
 use Rattle.bits.proofs.Says.{says_of, says_true, says_false}
 use Rattle.bits.proofs.SetLaws.{and-bit, and-bit_left, and-bit_right, has_below, zero_empty, removed_other}
 use Rattle.workflow.specs.Problem.{distinct, largest_load}
-use Rattle.workflow.proofs.Loads.{largest_load_scope}
 use Rattle.pattern.proofs.Same.{distinct_scope_cong, load_scope_cong}
 use Rattle.pattern.specs.Rule.{scope_in, level_in, load_in, unpacked}
 use Rattle.pattern.specs.Tables.{label_in, rule_in}
@@ -56,15 +51,17 @@ module _ (rule placed : ℕ) {scope : ℕ} (its_scope : scope ≡ scope_in rule)
       ∙ ap (λ (q : ℕ). distinct steps (λ s. has_bit scope s && has_bit placed s) (label_in label q)) its_level
       ∙ ap (λ (m : ℕ). distinct steps (λ s. has_bit m s && has_bit placed s) (label_in label (level_in rule))) its_scope
 
-  pub groups_loaded : (label : List ℕ) {level load : ℕ} → level ≡ level_in rule
-      → ((n : ℕ) → bit_and scope placed < 2 ^ n → load ≡ largest_load n (has_bit (bit_and scope placed)) (label_in label level))
-      → load ≡ group_load steps (has_bit placed) (label_in label) (unpacked rule)
-  groups_loaded label {level} its_level g =
-      g steps (bits_below steps _ (λ s h. has_below steps scope s its_within (and-bit_left scope placed s h)))
-      ∙ load_scope_cong steps (has_bit (bit_and scope placed)) (λ s. has_bit scope s && has_bit placed s) (label_in label level)
+  -- the largest load of the placed steps of the scope
+  pub groups_light : (label : List ℕ) {level : ℕ} → level ≡ level_in rule → (b : Bool)
+      → Says b (largest_load steps (has_bit (bit_and scope placed)) (label_in label level) ≤ load_in rule)
+      → Says b (group_load steps (has_bit placed) (label_in label) (unpacked rule) ≤ load_in rule)
+  groups_light label {level} its_level b says =
+      subst (λ (x : ℕ). Says b (x ≤ load_in rule))
+      (load_scope_cong steps (has_bit (bit_and scope placed)) (λ s. has_bit scope s && has_bit placed s) (label_in label level)
       (λ s l. and-bit scope placed s)
       ∙ ap (λ (q : ℕ). largest_load steps (λ s. has_bit scope s && has_bit placed s) (label_in label q)) its_level
-      ∙ ap (λ (m : ℕ). largest_load steps (λ s. has_bit m s && has_bit placed s) (label_in label (level_in rule))) its_scope
+      ∙ ap (λ (m : ℕ). largest_load steps (λ s. has_bit m s && has_bit placed s) (label_in label (level_in rule))) its_scope)
+      says
 
   -- the judgement by the count
   pub counted_says : (label : List ℕ) {groups left : ℕ} → groups ≡ group_count steps (has_bit placed) (label_in label) (unpacked rule)
@@ -76,14 +73,6 @@ module _ (rule placed : ℕ) {scope : ℕ} (its_scope : scope ≡ scope_in rule)
       = o steps its_within ∙ ap (λ (m : ℕ). count steps (λ s. has_bit m s && not (has_bit placed s))) its_scope in
       subst (λ (n : ℕ). Says r (CanBeMet (unpacked rule) (group_count steps (has_bit placed) (label_in label) (unpacked rule)) n)) open-steps
       (subst (λ (n : ℕ). Says r (CanBeMet (unpacked rule) n left)) g h)
-
--- where no class can hold more steps of the scope than it may, no group does
-pub light_rule : (rule placed : ℕ) (label : List ℕ) (steps : ℕ) → scope_in rule < 2 ^ steps → ones (scope_in rule) ≤ load_in rule
-    → group_load steps (has_bit placed) (label_in label) (unpacked rule) ≤ load_in rule
-light_rule rule placed label steps within l =
-    let few = largest_load_scope steps (λ s. has_bit (scope_in rule) s && has_bit placed s) (label_in label (level_in rule)) in
-    let part = count_mono steps (λ s. has_bit (scope_in rule) s && has_bit placed s) (has_bit (scope_in rule)) (λ s b h. and_left (has_bit (scope_in rule) s) _ h) in
-    omega (arith, ones_bits steps (scope_in rule) within)
 
 -- a rule whose count can be met can be met exactly where no group holds too many steps
 pub possible_says : (steps rule placed : ℕ) (label : List ℕ)

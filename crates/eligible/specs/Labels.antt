@@ -15,6 +15,15 @@ pub record LabelRow (steps level : ℕ) (label : List ℕ) : Type 0 where
 abbrev pub SmallLabels : ℕ → ℕ → List ℕ → Type 0
 SmallLabels steps level label = (s : ℕ) → has_bit steps s ≡ true → label_in label level s < 64
 
+-- a function may be asked for the label of each of some steps, and a word can hold what it answers
+pub record Labelling (steps : ℕ) (pre : ℕ → Type 0) (post : ℕ → ℕ → Type 0) : Type 0 where
+  pub may : (s : ℕ) → has_bit steps s ≡ true → pre s
+  pub small : (s v : ℕ) → has_bit steps s ≡ true → post s v → v < 64
+
+-- it answers with the labels that c gives
+abbrev pub LabelsBy : ℕ → (ℕ → ℕ → Type 0) → (ℕ → ℕ) → Type 0
+LabelsBy steps post c = (s v : ℕ) → has_bit steps s ≡ true → post s v → v ≡ c s
+
 -- a row for the level, with labels that a word can hold
 pub record LabelsReady (placed level : ℕ) (label : List ℕ) : Type 0 where
   pub row : LabelRow placed level label

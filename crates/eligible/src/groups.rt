@@ -1,6 +1,7 @@
 // The figures of a rule for a pattern: how many groups the placed steps of its scope have, and how many of these steps the largest of
 // them holds.
-ghost use Rattle.std.specs.Prelude.{true, ◌≡◌, ℕ, ◌^◌, ◌≤◌, ◌<◌, length, get_or};
+ghost use Rattle.std.specs.Prelude.{◌≡◌, ℕ, ◌%◌, ◌^◌, ◌≤◌, ◌<◌, length};
+ghost use Rattle.bits.specs.Sizes.{most_levels, label_entries};
 ghost use Rattle.bits.specs.Word.{has_bit};
 ghost use Rattle.bits.specs.Says.{Says};
 ghost use Rattle.pattern.specs.Eligible.{group_count, group_load};
@@ -9,11 +10,18 @@ ghost use Rattle.pattern.specs.Tables.{label_in};
 ghost use Rattle.workflow.specs.Labels.{LabelsOf};
 ghost use Rattle.eligible.specs.Labels.{LabelRow, SmallLabels, LabelsReady};
 
+use super::figures::{label_set, light};
 use bits::sizes::{Labels, MOST_STEPS};
-use bits::{set, small};
 use pattern::rule;
 use workflow::count::class_count;
-use workflow::load::largest_load;
+
+// The label of a step at a level.
+fn label_at(label: &Labels, level: usize, s: usize) -> usize
+    requires { (length label.now ≡ label_entries) × (1 ≤ level) × (level ≤ most_levels) × (s < 12) }
+    ensures { result ≡ label_in label.now level s % 64 }
+{
+    (label[(level - 1) * MOST_STEPS + s] % 64) as usize
+}
 
 // The labels of some steps at a level.
 pub fn labels_of(steps: u16, level: usize, label: &Labels) -> u64
@@ -21,16 +29,7 @@ pub fn labels_of(steps: u16, level: usize, label: &Labels) -> u64
     ensures { SmallLabels steps level label.now → (n : ℕ) → steps < 2 ^ n
         → LabelsOf n (has_bit steps) (label_in label.now level) result }
 {
-    let top = (level - 1) * MOST_STEPS;
-    let mut left = steps;
-    let mut labels: u64 = 0;
-    while left != 0 {
-        let next = small::take(left);
-        left = next.rest;
-        let s = next.first;
-        labels = set::with(labels, (label[top + s] % 64) as usize);
-    }
-    labels
+    label_set(steps, |s| label_at(label, level, s))
 }
 
 // The count of a rule for a pattern.
@@ -43,41 +42,16 @@ pub fn group_count(rule: u32, placed: u16, label: &Labels) -> usize
     class_count(labels)
 }
 
-// The labels of some steps at a level, each at its step.
-fn row_of(steps: u16, level: usize, label: &Labels) -> [u8; MOST_STEPS]
-    requires { LabelRow steps level label.now }
-    ensures { (length result ≡ 12) × ((s : ℕ) → has_bit steps s ≡ true → get_or result s 0 ≡ label_in label.now level s) }
-{
-    let top = (level - 1) * MOST_STEPS;
-    let mut row = [0u8; MOST_STEPS];
-    let mut left = steps;
-    while left != 0 {
-        let next = small::take(left);
-        left = next.rest;
-        let s = next.first;
-        row[s] = label[top + s];
-    }
-    row
-}
-
-// The largest load of a rule for a pattern.
-fn group_load(rule: u32, placed: u16, label: &Labels) -> usize
-    requires { LabelsReady placed (level_in rule) label.now }
-    ensures { (steps : ℕ) → scope_in rule < 2 ^ steps → result ≡ group_load steps (has_bit placed) (label_in label.now) (unpacked rule) }
-{
-    let scope = rule::scope(rule) & placed;
-    let row = row_of(scope, rule::level(rule), label);
-    largest_load(scope, &row)
-}
-
-// Whether no group holds more steps of a rule's scope than it may. Most rules limit no load.
+// Whether no group holds more steps of a rule's scope than it may.
 pub fn is_light(rule: u32, placed: u16, label: &Labels) -> bool
     requires { LabelsReady placed (level_in rule) label.now }
     ensures { (steps : ℕ) → scope_in rule < 2 ^ steps
         → Says result (group_load steps (has_bit placed) (label_in label.now) (unpacked rule) ≤ load_in rule) }
 {
-    if !rule::limits_load(rule) {
-        return true;
-    }
-    group_load(rule, placed, label) <= rule::load(rule)
+    let level = rule::level(rule);
+    light(
+        rule,
+        rule::scope(rule) & placed,
+        |s| label_at(label, level, s),
+    )
 }

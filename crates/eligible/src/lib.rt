@@ -3,6 +3,7 @@
 #![tactic(auto)]
 
 pub mod classes;
+mod figures;
 pub mod groups;
 pub mod plan;
 
@@ -16,8 +17,8 @@ ghost use Rattle.pattern.specs.Tables.{label_in};
 ghost use Rattle.eligible.specs.Labels.{LabelsReady};
 ghost use Rattle.eligible.specs.Rules.{RulesReady, ForSteps, Among};
 
+use bits::set::{Set, members};
 use bits::sizes::{Labels, Rules};
-use bits::{set, small};
 use groups::{group_count, is_light};
 use pattern::rule;
 
@@ -25,7 +26,7 @@ use pattern::rule;
 pub fn open_count(scope: u16, placed: u16) -> usize
     ensures { (result ≤ 16) × ((steps : ℕ) → scope < 2 ^ steps → result ≡ count steps (λ s. has_bit scope s && not (has_bit placed s))) }
 {
-    small::size(scope ^ (scope & placed))
+    (scope ^ (scope & placed)).size()
 }
 
 // Whether a rule can still be met.
@@ -46,11 +47,7 @@ pub fn eligible(among: u64, rule: &Rules, placed: u16, label: &Labels) -> bool
     requires { RulesReady among rule.now placed label.now }
     ensures { ForSteps among rule.now (λ steps. Says result (Among steps among rule.now placed label.now)) }
 {
-    let mut rest = among;
-    while rest != 0 {
-        let next = set::take(rest);
-        rest = next.rest;
-        let i = next.first;
+    for i in members(among) {
         if !possible(rule[i], placed, label) {
             return false;
         }

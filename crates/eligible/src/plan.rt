@@ -1,7 +1,6 @@
 // The figures of a rule for a plan, by the classes of the people.
-ghost use Rattle.std.specs.Prelude.{true, ◌≡◌, ℕ, ◌<◌, ◌≤◌, length, get_or};
+ghost use Rattle.std.specs.Prelude.{◌≡◌, ◌<◌, ◌≤◌, length};
 ghost use Rattle.bits.specs.Says.{Says};
-ghost use Rattle.bits.specs.Word.{has_bit};
 ghost use Rattle.workflow.specs.Problem.{OfPeople, class_count, class_load};
 ghost use Rattle.pattern.specs.Rule.{level_in, load_in, scope_in, unpacked};
 ghost use Rattle.pattern.specs.Tables.{plan_in};
@@ -9,11 +8,11 @@ ghost use Rattle.pattern.specs.Number.{first_use};
 ghost use Rattle.eligible.specs.Classes.{OneLevel, ForClasses, ForJobs};
 
 use super::classes::mates;
-use bits::sizes::{Crowds, MOST_STEPS, Plan};
-use bits::{set, small};
+use super::figures::{label_set, light};
+use bits::set::Set;
+use bits::sizes::{Crowds, Plan};
 use pattern::rule;
 use workflow::count::class_count;
-use workflow::load::largest_load;
 
 // The label of the class of a step's person: the first of its people.
 fn label_of(crowd: &Crowds, level: usize, plan: &Plan, s: usize) -> usize
@@ -26,7 +25,7 @@ fn label_of(crowd: &Crowds, level: usize, plan: &Plan, s: usize) -> usize
     if class == 0 {
         return 0;
     }
-    set::lowest(class)
+    class.lowest()
 }
 
 // The count of a rule for a plan: how many different classes of its level the people of its steps have.
@@ -36,44 +35,17 @@ pub fn plan_count(crowd: &Crowds, r: u32, plan: &Plan) -> usize
         (λ j. OfPeople j (plan_in plan.now) → result ≡ class_count j (unpacked r) (plan_in plan.now)) }
 {
     let level = rule::level(r);
-    let mut left = rule::scope(r);
-    let mut labels: u64 = 0;
-    while left != 0 {
-        let next = small::take(left);
-        left = next.rest;
-        let s = next.first;
-        labels = set::with(labels, label_of(crowd, level, plan, s));
-    }
+    let scope = rule::scope(r);
+    let labels = label_set(scope, |s| label_of(crowd, level, plan, s));
     class_count(labels)
 }
 
-// The labels of the classes of the people of a rule's steps, each at its step.
-fn plan_labels(crowd: &Crowds, r: u32, plan: &Plan) -> [u8; MOST_STEPS]
-    requires { OneLevel crowd.now (level_in r) × (scope_in r < 4096) × (length plan.now ≡ 12) }
-    ensures { (length result ≡ 12) × ForJobs crowd.now r (λ j. OfPeople j (plan_in plan.now)
-        → (s : ℕ) → has_bit (scope_in r) s ≡ true → get_or result s 0 ≡ first_use j.people (j.class (level_in r)) (plan_in plan.now s)) }
-{
-    let level = rule::level(r);
-    let mut labels = [0u8; MOST_STEPS];
-    let mut left: u16 = rule::scope(r);
-    while left != 0 {
-        let next = small::take(left);
-        left = next.rest;
-        let s = next.first;
-        labels[s] = label_of(crowd, level, plan, s) as u8;
-    }
-    labels
-}
-
-// Whether no class holds more steps of a rule's scope in a plan than it may. Most rules limit no load.
+// Whether no class holds more steps of a rule's scope in a plan than it may.
 pub fn plan_light(crowd: &Crowds, r: u32, plan: &Plan) -> bool
     requires { OneLevel crowd.now (level_in r) × (scope_in r < 4096) × (length plan.now ≡ 12) }
     ensures { ForJobs crowd.now r
         (λ j. OfPeople j (plan_in plan.now) → Says result (class_load j (unpacked r) (plan_in plan.now) ≤ load_in r)) }
 {
-    if !rule::limits_load(r) {
-        return true;
-    }
-    let labels = plan_labels(crowd, r, plan);
-    largest_load(rule::scope(r), &labels) <= rule::load(r)
+    let level = rule::level(r);
+    light(r, rule::scope(r), |s| label_of(crowd, level, plan, s))
 }

@@ -5,9 +5,8 @@ ghost use Rattle.pattern.specs.Given.{Ruled, ClassTable};
 ghost use Rattle.levels.specs.Tabled.{Gathered, Naming};
 
 use crate::nest::by_number;
-use bits::set::with;
+use bits::set::{Set, members};
 use bits::sizes::{CLASS_ENTRIES, Classes, Crowds, MOST_PEOPLE, MOST_STEPS, Rules};
-use bits::small;
 use pattern::table::alone;
 use pattern::{Size, rule};
 
@@ -39,7 +38,7 @@ pub fn crowds(people: usize, levels: usize, class: &Classes) -> Crowds
     }
     let mut crowd = gather(people, last, class);
     for p in 0..people {
-        crowd[last * MOST_PEOPLE + p] = with(0, p);
+        crowd[last * MOST_PEOPLE + p] = 0u64.with(p);
     }
     crowd
 }
@@ -52,12 +51,8 @@ pub fn naming(size: Size, rule: &Rules) -> [u64; MOST_STEPS]
     let mut of = [0u64; MOST_STEPS];
     let rules = size.rules;
     for i in 0..rules {
-        let mut rest = rule::scope(rule[i]);
-        while rest != 0 {
-            let next = small::take(rest);
-            rest = next.rest;
-            let s = next.first;
-            of[s] = with(of[s], i);
+        for s in members(rule::scope(rule[i])) {
+            of[s] = of[s].with(i);
         }
     }
     of

@@ -6,10 +6,10 @@ ghost use Rattle.bits.specs.Sizes.{most_levels, level_entries, class_entries};
 ghost use Rattle.pattern.specs.Given.{Ruled, Classed};
 ghost use Rattle.levels.specs.Trims.{Marks, KeptLevels, OldLevels, Rows, Renumbered, Trims};
 
+use bits::set::Set;
 use bits::sizes::{
     CLASS_ENTRIES, Classes, Crowds, LEVEL_ENTRIES, MOST_PEOPLE, MOST_RULES, Naming, Rules,
 };
-use bits::small::{has, with};
 use index::{crowds, naming};
 use pattern::{Size, rule};
 
@@ -42,7 +42,7 @@ fn marks(rules: usize, rule: &Rules) -> u16
 {
     let mut all: u16 = 0;
     for i in 0..rules {
-        all = with(all, rule::level(rule[i]));
+        all = all.with(rule::level(rule[i]));
     }
     all
 }
@@ -56,7 +56,7 @@ fn number(levels: usize, marked: u16) -> Numbers
     let mut new = [0u8; LEVEL_ENTRIES];
     let mut count: usize = 0;
     for q in 0..levels {
-        if !has(marked, q + 1) {
+        if !marked.has(q + 1) {
             continue;
         }
         count += 1;

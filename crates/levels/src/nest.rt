@@ -4,7 +4,7 @@ ghost use Rattle.bits.specs.Sizes.{most_levels, class_entries};
 ghost use Rattle.pattern.specs.Nesting.{ByNumber, Nesting};
 ghost use Rattle.levels.specs.Tabled.{Gathered};
 
-use bits::set::with;
+use bits::set::Set;
 use bits::sizes::{CLASS_ENTRIES, Classes, Crowds, MOST_PEOPLE, Nest};
 
 // Puts the people of each class at its number into an array of zeros; a number is below 64.
@@ -18,7 +18,7 @@ pub fn by_number(people: usize, levels: usize, class: &Classes, inside: &mut Nes
             continue;
         }
         let v = x - p + (class[x] % 64) as usize;
-        inside[v] = with(inside[v], p);
+        inside[v] = inside[v].with(p);
     }
 }
 
@@ -39,7 +39,7 @@ pub fn nests(people: usize, levels: usize, class: &Classes, crowd: &Crowds) -> N
             continue;
         }
         let w = (class[x + MOST_PEOPLE] % 64) as usize;
-        inside[v] = with(inside[v], w);
+        inside[v] = inside[v].with(w);
     }
     inside
 }

@@ -115,7 +115,7 @@ module _ {edges : List ℕ} {groups : ℕ} {at : List ℕ} {free rest rest' g : 
               other = λ u. let i : class_at at g ≡ 64 = idle in let v : class_at at k.who ≡ class_at at g = ap (class_at at) u in omega arith;
             }
 
-    pub next_none : was ≡ 2 ^ 64 - 1 → not b ≡ true → Covers (in_mask groups) (suits edges) false (class_at at')
+    pub next_none : was ≡ 2 ^ 64 - 1 → not b ≡ true → {f : ℕ → ℕ} → Covers (in_mask groups) (suits edges) false f
     next_none all d = record { sound = λ u. true-false u refl; complete = λ u. next_stuck all d }
 
 -- every group has got a class

@@ -2,6 +2,8 @@
 use mathlib.Core.Bool.{true, false}
 use mathlib.Core.Path.{◌≡◌, refl, sym, ◌∙◌, subst}
 use mathlib.Core.List.{List, [], ◌∷◌}
+use Rattle.std.specs.Prelude.{Option, Some, None, MatchOption}
+use Rattle.std.specs.List.{AllWithin, HoldsAt}
 use Prim.Native.Nat.{ℕ, zero, suc, ◌≤◌, ◌<◌}
 use native.Mathlib.Omega.{arith}
 use native.Mathlib.Nat.{not-suc-le-zero}
@@ -27,16 +29,12 @@ equal_or_not a b p q = by_cases (eqb a b) (λ t. p (eqb-true a b t)) (λ t. q (e
 
 -- ---- the holder of a class
 
-pub holder_found : {at : List ℕ} {c h : ℕ} → length at ≡ 12 → h < 12 → get_or at h 0 ≡ c → Holder at c h
-holder_found {at} {c} {h} s l e =
-    let m : h < length at = omega arith in
-    record { within = omega arith; has = λ k. get_d_default at h 64 0 m ∙ e; nobody = λ n k. absurd (omega arith) }
-
-pub other_class : (at : List ℕ) (c h : ℕ) → length at ≡ 12 → h < 12 → (get_or at h 0 ≡ c → ⊥) → class_at at h ≡ c → ⊥
-other_class at c h s l n e = let m : h < length at = omega arith in n (get_d_default at h 0 64 m ∙ e)
-
-pub holder_none : {at : List ℕ} {c h : ℕ} → 12 ≤ h → ((k : ℕ) → k < h → class_at at k ≡ c → ⊥) → Holder at c 12
-holder_none {at} {c} {h} l n = record { within = omega arith; has = λ k. absurd (omega arith); nobody = λ e k m. n k (omega arith) }
+-- the first place that has the class, by the library's search
+pub holder_by_place : (at : List ℕ) (c : ℕ) (r : Option ℕ) → length at ≡ 12
+    → MatchOption r (AllWithin (λ d. d ≡ c → ⊥) at 0 (length at)) (λ h. (h < length at) × HoldsAt (λ d. d ≡ c) at h × AllWithin (λ d. d ≡ c → ⊥) at 0 h)
+    → Holder at c r
+holder_by_place at c None s f = λ k l e. f k 64 (omega arith) (omega arith) e
+holder_by_place at c (Some h) s f = (omega (arith, f.0), f.1 64)
 
 -- ---- a class given to one group, or taken from it
 
@@ -138,13 +136,11 @@ grown_free {edges} {at} {free} {free'} {g} {c} r l suit has gone =
     nobody : (k : ℕ) → class_at at k ≡ c → ⊥
     nobody k e = true-false (subst (λ (x : ℕ). has_bit free x ≡ true) (sym e) has) (r.held.taken k (omega arith))
 
-pub grown_unheld : {edges at : List ℕ} {free g c h : ℕ} → Unserved edges at free g → c < 64 → suits edges g c ≡ true → has_bit free c ≡ false
-    → Holder at c h → 12 ≤ h → Grown edges at (set at g c) free g
-grown_unheld {edges} {at} {free} {g} {c} {h} r l suit gone holder out =
+pub grown_unheld : {edges at : List ℕ} {free g c : ℕ} → Unserved edges at free g → c < 64 → suits edges g c ≡ true → has_bit free c ≡ false
+    → Holder at c None → Grown edges at (set at g c) free g
+grown_unheld {edges} {at} {free} {g} {c} r l suit gone holder =
     grown r l
     (given r.below l r.held suit (λ k n e. nobody k e) gone)
   where
     nobody : (k : ℕ) → class_at at k ≡ c → ⊥
-    nobody k e =
-        let w : h ≤ 12 = holder.within in
-        holder.nobody (omega arith) k (placed_below at k r.held.sized (omega arith)) e
+    nobody k e = holder k (placed_below at k r.held.sized (omega arith)) e

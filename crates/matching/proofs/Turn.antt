@@ -3,6 +3,7 @@
 use mathlib.Core.Bool.{Bool, true, false}
 use mathlib.Core.Path.{◌≡◌, refl, sym, subst, subst₂}
 use mathlib.Core.List.{List}
+use Rattle.std.specs.Prelude.{Some, None}
 use Prim.Native.Nat.{ℕ, ◌+◌, ◌*◌, ◌≤◌, ◌<◌, ◌^◌}
 use native.Mathlib.Omega.{arith}
 use lib.Bits.{bit_and}
@@ -65,38 +66,37 @@ turn_last {edges} {at} {at'} {free} {free'} {was} {now} {g} s e = record {
   };
 }
 
--- what is known once a class is taken and its holder is looked up
-pub record Turn (edges at₀ at : List ℕ) (free₀ free was now now' g class h : ℕ) : Type 0 where
+-- what is known once a class is taken
+pub record Turn (edges at₀ at : List ℕ) (free₀ free was now now' g class : ℕ) : Type 0 where
   pub search : Searching edges at₀ at free₀ free was now g
   pub fits : now < 2 ^ 64
   pub low : (class < 64) × Lowest (bit_and (mask edges g) now) class
   pub gone : Removed now class now'
-  pub holder : Holder at class h
 
-pub turn_of : {edges at₀ at : List ℕ} {free₀ free was now now' g class h : ℕ} → Searching edges at₀ at free₀ free was now g → now < 2 ^ 64
-    → (class < 64) × Lowest (bit_and (mask edges g) now) class → Removed now class now' → Holder at class h
-    → Turn edges at₀ at free₀ free was now now' g class h
-turn_of s f l r w = record { search = s; fits = f; low = l; gone = r; holder = w }
+pub turn_of : {edges at₀ at : List ℕ} {free₀ free was now now' g class : ℕ} → Searching edges at₀ at free₀ free was now g → now < 2 ^ 64
+    → (class < 64) × Lowest (bit_and (mask edges g) now) class → Removed now class now'
+    → Turn edges at₀ at free₀ free was now now' g class
+turn_of s f l r = record { search = s; fits = f; low = l; gone = r }
 
-module _ {edges at₀ at : List ℕ} {free₀ free was now now' g class h : ℕ} (t : Turn edges at₀ at free₀ free was now now' g class h) where
+module _ {edges at₀ at : List ℕ} {free₀ free was now now' g class : ℕ} (t : Turn edges at₀ at free₀ free was now now' g class) where
   suit : suits edges g class ≡ true
   suit = suits_of edges g class t.low.0 (and-bit_left (mask edges g) now class t.low.1.has)
 
   unseen : has_bit now class ≡ true
   unseen = and-bit_right (mask edges g) now class t.low.1.has
 
-  displacing : h < 12 → Displacing edges at free g h class
-  displacing m = record { ready = t.search.crowded.ready; small = t.low.0; below = m; has = t.holder.has m }
+  displacing : {h : ℕ} → Holder at class (Some h) → Displacing edges at free g h class
+  displacing m = record { ready = t.search.crowded.ready; small = t.low.0; below = m.0; has = m.1 }
 
   since : {at' : List ℕ} {free' now'' : ℕ} → Grown edges at at' free' g → Placement edges at₀ at' free₀ free' was now'' g true
   since {at'} {free'} w = won (subst (λ (x : List ℕ). Grown edges x at' free' g) t.search.same w)
 
   -- nobody has the class
-  pub turn_unheld : 12 ≤ h → Placement edges at₀ (set at g class) free₀ free was now' g true
-  turn_unheld o = since (grown_unheld t.search.crowded.ready t.low.0 suit (t.search.crowded.spent class suit) t.holder o)
+  pub turn_unheld : Holder at class None → Placement edges at₀ (set at g class) free₀ free was now' g true
+  turn_unheld o = since (grown_unheld t.search.crowded.ready t.low.0 suit (t.search.crowded.spent class suit) o)
 
   -- the holder is to get another
-  pub turn_ready : h < 12 → Unserved edges (displaced at g h class) free h
+  pub turn_ready : {h : ℕ} → Holder at class (Some h) → Unserved edges (displaced at g h class) free h
   turn_ready m = displaced_ready (displacing m) suit
 
   pub turn_below : {n : ℕ} → 2 * was ≡ n → 2 * now' + 1 < n
@@ -104,13 +104,13 @@ module _ {edges at₀ at : List ℕ} {free₀ free was now now' g class h : ℕ}
       let p : now' < now = removed_less unseen t.gone in
       let q : now ≤ was = part_le now was t.search.tried.shrunk in omega arith
 
-  module _ {at' : List ℕ} {free' now'' : ℕ} {b : Bool} (a : Placement edges (displaced at g h class) at' free free' now' now'' h b) where
+  module _ {at' : List ℕ} {free' now'' h : ℕ} {b : Bool} (a : Placement edges (displaced at g h class) at' free free' now' now'' h b) where
     -- it has got one
-    pub turn_won : h < 12 → b ≡ true → Placement edges at₀ at' free₀ free' was now'' g true
+    pub turn_won : Holder at class (Some h) → b ≡ true → Placement edges at₀ at' free₀ free' was now'' g true
     turn_won m e = since (displaced_grown (displacing m) (a.success e))
 
     -- it is stuck
-    pub turn_lost : h < 12 → b ≡ false → Searching edges at₀ (set (set at' h class) g 64) free₀ free' was now'' g
+    pub turn_lost : Holder at class (Some h) → b ≡ false → Searching edges at₀ (set (set at' h class) g 64) free₀ free' was now'' g
     turn_lost m f =
         let k : Stuck edges (displaced at g h class) at' free free' now' now'' h = a.failure f in
         let s : Searching edges at₀ at free₀ free was now g = t.search in

@@ -1,6 +1,6 @@
 -- Assignments of classes to groups, and what the answer of a matching says of them, over any relation of groups and classes.
 -- Assumes nothing.
-use Rattle.std.specs.Prelude.{Bool, true, false, ◌&&◌, ◌≡◌, List, ℕ, ltb, get_or}
+use Rattle.std.specs.Prelude.{Option, None, Some, Bool, true, false, ◌&&◌, ◌≡◌, List, ℕ, ltb, get_or}
 use Rattle.bits.specs.Word.{has_bit}
 
 -- f gives each group a class along an edge, and no two groups one class
@@ -24,3 +24,8 @@ suits edges g c = ltb c 64 && has_bit (get_or edges g 0) c
 -- the class that group g has, and 64 where it has none
 abbrev pub class_at : List ℕ → ℕ → ℕ
 class_at at g = get_or at g 64
+
+-- the same of an answer: no group has one where nothing is found
+abbrev pub classes_of : Option (List ℕ) → ℕ → ℕ
+classes_of None g = 64
+classes_of (Some at) g = class_at at g

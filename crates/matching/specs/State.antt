@@ -1,6 +1,6 @@
 -- What holds while groups are given classes, one after the other. `at` lists the class of each group, 64 for none; `free` and `unseen`
 -- are masks of classes: those that nobody has, and those that a search has not tried. Assumes nothing.
-use Rattle.std.specs.Prelude.{Bool, true, false, ◌≡◌, List, ℕ, ◌≤◌, ◌<◌, length}
+use Rattle.std.specs.Prelude.{Option, None, Some, Bool, true, false, ◌≡◌, List, ℕ, ◌≤◌, ◌<◌, length}
 use Rattle.bits.specs.Word.{has_bit}
 use Rattle.matching.specs.Assignment.{in_mask, suits, class_at}
 
@@ -16,11 +16,10 @@ pub record Held (edges at : List ℕ) (free : ℕ) : Type 0 where
   pub apart : (g h : ℕ) → Placed at g → class_at at g ≡ class_at at h → g ≡ h
   pub taken : (g : ℕ) → Placed at g → has_bit free (class_at at g) ≡ false
 
--- h is the group that has class c, and 12 where none has
-pub record Holder (at : List ℕ) (c h : ℕ) : Type 0 where
-  pub within : h ≤ 12
-  pub has : h < 12 → class_at at h ≡ c
-  pub nobody : h ≡ 12 → (k : ℕ) → k < 12 → class_at at k ≡ c → ⊥
+-- a group that has class c, and none where none has
+abbrev pub Holder : List ℕ → ℕ → Option ℕ → Type 0
+Holder at c None = (k : ℕ) → k < 12 → class_at at k ≡ c → ⊥
+Holder at c (Some h) = (h < 12) × (class_at at h ≡ c)
 
 -- group g has no class, and may be given one
 pub record Unserved (edges at : List ℕ) (free g : ℕ) : Type 0 where

@@ -2,13 +2,12 @@
 // below 64, along edges and no class twice, or it is known that this cannot be done.
 #![tactic(auto)]
 
-ghost use Rattle.std.specs.Prelude.{◌≡◌, length};
-ghost use Rattle.matching.specs.Assignment.{Covers, in_mask, suits, class_at};
+ghost use Rattle.std.specs.Prelude.{◌≡◌, length, is_some};
+ghost use Rattle.matching.specs.Assignment.{Covers, in_mask, suits, classes_of};
 ghost use Rattle.matching.specs.State.{Holder, Unserved, Crowded, Placement};
 
-use bits::set::{ALL, lowest, without};
+use bits::set::{ALL, Set, members};
 use bits::sizes::MOST_STEPS;
-use bits::small;
 
 // The classes that suit each group.
 pub type Edges = [u64; MOST_STEPS];
@@ -16,26 +15,16 @@ pub type Edges = [u64; MOST_STEPS];
 // The class of each group, 64 where it has none.
 pub type Places = [u8; MOST_STEPS];
 
+// A number past the classes, and no Option: each group that was asked for has a class in an answer, so who reads one would have to
+// open an Option that is never None.
 const NOWHERE: u8 = 64;
 
-// An answer: whether every group that was asked for has got a class, and then the class of each.
-#[derive(Drop)]
-pub struct Cover {
-    pub found: bool,
-    pub at: Places,
-}
-
-// The group that has class `c`, or 12 where none has.
-fn holder(at: &Places, c: u8) -> usize
+// The group that has class `c`, where one has.
+fn holder(at: &Places, c: u8) -> Option<usize>
     requires { length at.now ≡ 12 }
     ensures { Holder at.now c result }
 {
-    for h in 0..MOST_STEPS {
-        if at[h] == c {
-            return h;
-        }
-    }
-    MOST_STEPS
+    at.iter().position(|class| *class == c)
 }
 
 // Gives group `g` a class: a free one, or one whose holder can be given another. Nobody has a class
@@ -47,8 +36,8 @@ fn place(edges: &Edges, at: &mut Places, free: &mut u64, unseen: &mut u64, g: us
 {
     let idle = edges[g] & *free;
     if idle != 0 {
-        let class = lowest(idle);
-        *free = without(*free, class);
+        let class = idle.lowest();
+        *free = (*free).without(class);
         at[g] = class as u8;
         return true;
     }
@@ -68,14 +57,14 @@ fn augment(edges: &Edges, at: &mut Places, free: &mut u64, unseen: &mut u64, g: 
         if left == 0 {
             return false;
         }
-        let class = lowest(left);
-        *unseen = without(*unseen, class);
+        let class = left.lowest();
+        *unseen = (*unseen).without(class);
         let c = class as u8;
-        let h = holder(at, c);
+        let held = holder(at, c);
         at[g] = c;
-        if h >= MOST_STEPS {
+        let Some(h) = held else {
             return true;
-        }
+        };
         at[h] = NOWHERE;
         if place(edges, at, free, unseen, h) {
             return true;
@@ -86,27 +75,17 @@ fn augment(edges: &Edges, at: &mut Places, free: &mut u64, unseen: &mut u64, g: 
 }
 
 // A class for each group of `groups`, where there are enough.
-pub fn assign(edges: &Edges, groups: u16) -> Cover
-    ensures { Covers (in_mask groups) (suits edges.now) result.found (class_at result.at) }
+pub fn assign(edges: &Edges, groups: u16) -> Option<Places>
+    ensures { Covers (in_mask groups) (suits edges.now) (is_some result) (classes_of result) }
 {
     let mut at = [NOWHERE; MOST_STEPS];
     let mut free = ALL;
     let mut unseen = ALL;
-    let mut rest = groups % 4096;
-    while rest != 0 {
-        let next = small::take(rest);
-        rest = next.rest;
-        let g = next.first;
+    for g in members(groups % 4096) {
         if !place(edges, &mut at, &mut free, &mut unseen, g) {
-            return Cover {
-                found: false,
-                at: at,
-            };
+            return None;
         }
         unseen = ALL;
     }
-    Cover {
-        found: true,
-        at: at,
-    }
+    Some(at)
 }

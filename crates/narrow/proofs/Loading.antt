@@ -21,6 +21,9 @@ use Rattle.workflow.specs.Problem.{Job, Rule, Plan, Met, load_of}
 use Rattle.workflow.proofs.Loads.{load_le_largest}
 use Rattle.pattern.specs.Rule.{level_in, load_in, scope_in, unpacked}
 use Rattle.eligible.specs.Classes.{ForClasses, ForJobs}
+use Rattle.std.proofs.Common.{Result, Ok, Err, is_err}
+use Rattle.std.specs.Result.{IfOk}
+use Rattle.narrow.specs.declared.restrict.Unmet.{Unmet}
 use Rattle.narrow.specs.Domains.{Takes, Revised}
 use Rattle.narrow.specs.Fixing.{Shared}
 use Rattle.narrow.specs.Narrowing.{Restricted}
@@ -34,14 +37,19 @@ pub revised_none : {j : Job} {r : Rule} {dom : List ℕ} → length dom ≡ 12 �
 revised_none {dom = dom} e = record { fewer = fewer_same dom e; kept = λ t π met takes. takes; lost = λ t. true-false t refl }
 
 -- where the first has not failed, the two are one
-pub revised_then : {j : Job} {r : Rule} {dom dom' dom'' : List ℕ} {before failed : Bool} → Revised j r dom dom' before → before ≡ false
-    → Revised j r dom' dom'' failed → Revised j r dom dom'' failed
-revised_then {dom = dom} {dom' = dom'} {dom'' = dom''} a e b =
+pub revised_then : {j : Job} {r : Rule} {dom dom' dom'' : List ℕ} {failed : Bool} → Revised j r dom dom' false → Revised j r dom' dom'' failed
+    → Revised j r dom dom'' failed
+revised_then {dom = dom} {dom' = dom'} {dom'' = dom''} a b =
     record {
       fewer = fewer_then dom dom' dom'' a.fewer b.fewer;
-      kept = λ t π met takes. b.kept t π met (a.kept e π met takes);
-      lost = λ t π met takes. b.lost t π met (a.kept e π met takes);
+      kept = λ t π met takes. b.kept t π met (a.kept refl π met takes);
+      lost = λ t π met takes. b.lost t π met (a.kept refl π met takes);
     }
+
+-- a failure that is handed on
+pub failure : (P : Bool → Type 0) (r : Result ℕ Unmet) → is_err r ≡ true → P true → P (is_err r) × IfOk r (λ changed. changed < 4096)
+failure P (Ok changed) e p = true-false e refl
+failure P (Err _) e p = (p, tt)
 
 -- there are as many domains as before: a job without people can have the rule
 pub revised_sized : {crowd : List ℕ} {r : ℕ} {dom dom' : List ℕ} {failed : Bool} → scope_in r < 4096
@@ -176,10 +184,11 @@ module _ {crowd : List ℕ} {r : ℕ} {dom : List ℕ} where
 
     -- its class is looked at
     module _ {level mask : ℕ} (is : level ≡ level_in r) (shared : ForClasses crowd level (λ people c. Shared people c (get_or dom' s 0) mask))
-        (some : mask ≡ 0 → ⊥) {dom'' : List ℕ} {failed : Bool} (next : (j : Job) → OneClass j r mask dom' → Revised j (unpacked r) dom' dom'' failed) where
-      closing_then : ForJobs crowd r (λ j. Revised j (unpacked r) dom dom'' failed)
-      closing_then size rule at =
-          revised_then (w.revised size rule at) refl
+        (some : mask ≡ 0 → ⊥) {dom'' : List ℕ} where
+      pub closing_then : {failed : Bool} → ((j : Job) → OneClass j r mask dom' → Revised j (unpacked r) dom' dom'' failed)
+          → ForJobs crowd r (λ j. Revised j (unpacked r) dom dom'' failed)
+      closing_then next size rule at =
+          revised_then (w.revised size rule at)
           (next _ (record {
             few_steps = at.few_steps;
             few_people = at.grouped.few;
@@ -191,13 +200,11 @@ module _ {crowd : List ℕ} {r : ℕ} {dom : List ℕ} where
                 (_, λ p m h. (its.only p h).1);
           }))
 
-      pub closing_lost : failed ≡ true → ForJobs crowd r (λ j. Revised j (unpacked r) dom dom'' true)
-      closing_lost e = subst (λ (b : Bool). ForJobs crowd r (λ j. Revised j (unpacked r) dom dom'' b)) e closing_then
-
-      pub closing_more : failed ≡ false → {more : ℕ} → more < 4096 → Closing crowd r dom dom'' left' (bit_or changed more)
-      closing_more e {more} l =
+      pub closing_more : ((j : Job) → OneClass j r mask dom' → Revised j (unpacked r) dom' dom'' false) → {more : ℕ} → more < 4096
+          → Closing crowd r dom dom'' left' (bit_or changed more)
+      closing_more next {more} l =
           record {
             rest = λ u h. w.rest u (taken_was t u h);
             small = small_or changed more w.small l;
-            revised = subst (λ (b : Bool). ForJobs crowd r (λ j. Revised j (unpacked r) dom dom'' b)) e closing_then;
+            revised = closing_then next;
           }

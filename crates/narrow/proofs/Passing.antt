@@ -1,5 +1,5 @@
 -- Rule after rule: no valid plan is lost. Assumes nothing.
-use mathlib.Core.Bool.{Bool, true, false}
+use mathlib.Core.Bool.{true, false}
 use mathlib.Core.List.{List}
 use mathlib.Core.Path.{◌≡◌, refl}
 use Prim.Native.Nat.{ℕ, ◌<◌}
@@ -17,23 +17,22 @@ takes_valid j dom π v = record { within = v.within; among = v.authorised }
 pub narrowed_none : {j : Job} {dom : List ℕ} → length dom ≡ 12 → Narrowed j dom dom true
 narrowed_none {dom = dom} e = record { fewer = fewer_same dom e; kept = λ t π v. v; lost = λ t. true-false refl t }
 
-module _ {j : Job} {dom dom' dom'' : List ℕ} (i : ℕ) (below : i < j.rules) {failed : Bool} (w : Narrowed j dom dom' true)
-    (more : Revised j (j.rule i) dom' dom'' failed) where
-  pub narrowed_more : failed ≡ false → Narrowed j dom dom'' true
-  narrowed_more e =
+module _ {j : Job} {dom dom' dom'' : List ℕ} (i : ℕ) (below : i < j.rules) (w : Narrowed j dom dom' true) where
+  pub narrowed_more : Revised j (j.rule i) dom' dom'' false → Narrowed j dom dom'' true
+  narrowed_more more =
       record {
         fewer = fewer_then dom dom' dom'' w.fewer more.fewer;
         kept = λ t π v.
             let u = w.kept refl π v in
-            let k = more.kept e π (u.eligible i below) (takes_valid j dom' π u) in
+            let k = more.kept refl π (u.eligible i below) (takes_valid j dom' π u) in
             record { within = k.within; authorised = k.among; eligible = v.eligible };
         lost = λ t. true-false refl t;
       }
 
-  pub narrowed_lost : failed ≡ true → Narrowed j dom dom'' false
-  narrowed_lost e =
+  pub narrowed_lost : Revised j (j.rule i) dom' dom'' true → Narrowed j dom dom'' false
+  narrowed_lost more =
       record {
         fewer = fewer_then dom dom' dom'' w.fewer more.fewer;
         kept = λ t. true-false t refl;
-        lost = λ t π v. let u = w.kept refl π v in more.lost e π (u.eligible i below) (takes_valid j dom' π u);
+        lost = λ t π v. let u = w.kept refl π v in more.lost refl π (u.eligible i below) (takes_valid j dom' π u);
       }

@@ -1,5 +1,5 @@
 -- Leaving some steps only some people, step by step. Assumes nothing.
-use mathlib.Core.Bool.{Bool, true, false}
+use mathlib.Core.Bool.{true, false}
 use mathlib.Core.List.{List}
 use mathlib.Core.Path.{◌≡◌, refl, sym, subst, ap, ◌∙◌}
 use Prim.Native.Nat.{ℕ, ◌<◌}
@@ -16,6 +16,9 @@ use Rattle.bits.proofs.Counting.{and_of}
 use Rattle.bits.proofs.SetLaws.{and-bit, and-bit_left, empty_lacks, zero_empty, has_below, added_other}
 use Rattle.bits.proofs.Masks.{taken_was, bits_below}
 use Rattle.pattern.specs.Tables.{may_in}
+use Rattle.std.proofs.Common.{Result, Ok, Err, is_err}
+use Rattle.std.specs.Result.{IfOk, result_unwrap_or}
+use Rattle.narrow.specs.declared.restrict.Unmet.{Unmet}
 use Rattle.narrow.specs.Domains.{Fewer}
 use Rattle.narrow.specs.Narrowing.{Restricting, Restricted}
 
@@ -86,10 +89,15 @@ module _ {steps people : ℕ} {dom : List ℕ} where
         other u p d = ap (λ (x : ℕ). has_bit x p) (get_or-set_other dom' s u _ 0 d)
 
     -- nobody of it is such
-    pub restricted_fails : bit_and (get_or dom' s 0) people ≡ 0 → Restricted steps people dom dom' true changed
+    pub restricted_fails : bit_and (get_or dom' s 0) people ≡ 0 → Restricted steps people dom dom' true 0
     restricted_fails e =
         record {
-          done = restricting_stop w;
+          done = record {
+            fewer = w.fewer;
+            keeps = w.keeps;
+            rest = λ u h. true-false h (empty_lacks u);
+            among = λ u h. true-false h (empty_lacks u);
+          };
           lost = λ x. (
             s,
             w.rest s t.lowest.has,
@@ -103,5 +111,7 @@ module _ {steps people : ℕ} {dom : List ℕ} where
   pub restricted_all : {dom' : List ℕ} {left changed : ℕ} → Restricting steps people dom dom' left changed → Restricted steps people dom dom' false changed
   restricted_all w = record { done = restricting_stop w; lost = λ t. true-false t refl }
 
-  pub changed_small : {dom' : List ℕ} {failed : Bool} {changed : ℕ} → Restricted steps people dom dom' failed changed → steps < 4096 → changed < 4096
-  changed_small {changed = changed} w l = bits_below 12 changed (λ s h. has_below 12 steps s l (w.done.among s h))
+  pub changed_small : {dom' : List ℕ} (r : Result ℕ Unmet) → Restricted steps people dom dom' (is_err r) (result_unwrap_or r 0) → steps < 4096
+      → IfOk r (λ changed. changed < 4096)
+  changed_small (Ok changed) w l = bits_below 12 changed (λ s h. has_below 12 steps s l (w.done.among s h))
+  changed_small (Err e) w l = tt

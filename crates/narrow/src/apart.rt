@@ -4,9 +4,8 @@ ghost use Rattle.eligible.specs.Classes.{OneLevel, ForClasses};
 ghost use Rattle.narrow.specs.Fixing.{Reaching};
 ghost use Rattle.narrow.specs.Parting.{Apart};
 
-use bits::set::ALL;
+use bits::set::{ALL, Set, members};
 use bits::sizes::{Crowds, Domains};
-use bits::{set, small};
 use eligible::classes::mates;
 
 // Steps whose domains reach no class in common, nor one of those used: each has a class of its own in
@@ -23,12 +22,11 @@ pub fn reach(crowd: &Crowds, level: usize, domain: u64) -> u64
     ensures { ForClasses crowd.now level (λ people c. Reaching people c domain 0 result) }
 {
     let mut found: u64 = 0;
-    let mut left = domain;
-    while left != 0 {
-        let next = set::take(left);
-        let mask = mates(crowd, level, next.first);
+    let mut left = members(domain);
+    while let Some(p) = left.next() {
+        let mask = mates(crowd, level, p);
         found = found | mask;
-        left = next.rest & (mask ^ ALL);
+        left.left = left.left & (mask ^ ALL);
     }
     found
 }
@@ -40,18 +38,14 @@ pub fn apart(crowd: &Crowds, level: usize, steps: u16, used: u64, dom: &Domains)
 {
     let mut all = used;
     let mut heads: u16 = 0;
-    let mut left = steps;
-    while left != 0 {
-        let next = small::take(left);
-        left = next.rest;
-        let s = next.first;
+    for s in members(steps) {
         let reached = reach(crowd, level, dom[s]);
         let shared = reached & all;
         if shared != 0 {
             continue;
         }
         all = all | reached;
-        heads = small::with(heads, s);
+        heads = heads.with(s);
     }
     Parts {
         used: all,

@@ -3,8 +3,8 @@ ghost use Rattle.std.specs.Prelude.{◌≡◌, ℕ, ◌^◌, ◌≤◌, ◌<◌,
 ghost use Rattle.eligible.specs.Classes.{OneLevel, ForClasses};
 ghost use Rattle.narrow.specs.Fixing.{Shared, Fixing};
 
+use bits::set::{Set, members};
 use bits::sizes::{Crowds, Domains};
-use bits::{set, small};
 use eligible::classes::mates;
 use workflow::count::class_count;
 
@@ -25,7 +25,7 @@ pub fn shared(crowd: &Crowds, level: usize, domain: u64) -> u64
     if domain == 0 {
         return 0;
     }
-    let mask = mates(crowd, level, set::lowest(domain));
+    let mask = mates(crowd, level, domain.lowest());
     if domain & mask != domain {
         return 0;
     }
@@ -41,14 +41,10 @@ pub fn fixed(crowd: &Crowds, level: usize, scope: u16, dom: &Domains) -> Forced
     let mut used: u64 = 0;
     let mut labels: u64 = 0;
     let mut wide: u16 = 0;
-    let mut left = scope;
-    while left != 0 {
-        let next = small::take(left);
-        left = next.rest;
-        let s = next.first;
+    for s in members(scope) {
         let mask = shared(crowd, level, dom[s]);
         if mask == 0 {
-            wide = small::with(wide, s);
+            wide = wide.with(s);
             continue;
         }
         // A class that is had has its label.
@@ -56,7 +52,7 @@ pub fn fixed(crowd: &Crowds, level: usize, scope: u16, dom: &Domains) -> Forced
             continue;
         }
         used = used | mask;
-        labels = set::with(labels, set::lowest(mask));
+        labels = labels.with(mask.lowest());
     }
     Forced {
         used: used,

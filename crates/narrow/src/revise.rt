@@ -2,6 +2,7 @@
 // apart bring it there, the open steps join the classes that there are; at the lower end, they avoid them.
 ghost use Rattle.std.specs.Prelude.{true, ◌≡◌, ◌<◌, ◌≤◌, length};
 ghost use Rattle.std.specs.Int.Count.{ones};
+ghost use Rattle.std.specs.Result.{IfOk, is_err};
 ghost use Rattle.pattern.specs.Rule.{level_in, most_in, scope_in, unpacked};
 ghost use Rattle.eligible.specs.Classes.{OneLevel, ForClasses, ForJobs};
 ghost use Rattle.narrow.specs.Domains.{Revised};
@@ -11,11 +12,10 @@ ghost use Rattle.narrow.specs.Parting.{Limited};
 use super::apart::{apart, reach};
 use super::fixed::{Forced, fixed};
 use super::load::by_load;
-use super::restrict::{Revision, restrict};
+use super::restrict::{Unmet, restrict};
 use super::spread::spread;
-use bits::set::ALL;
+use bits::set::{ALL, Set, members};
 use bits::sizes::{Crowds, Domains};
-use bits::small;
 use pattern::rule;
 
 // Everybody who shares a class with somebody of the domain of each of these steps.
@@ -24,11 +24,7 @@ fn common(crowd: &Crowds, level: usize, steps: u16, dom: &Domains) -> u64
     ensures { ForClasses crowd.now level (λ people c. Common people c steps dom.now 0 result) }
 {
     let mut found = ALL;
-    let mut left = steps;
-    while left != 0 {
-        let next = small::take(left);
-        left = next.rest;
-        let s = next.first;
+    for s in members(steps) {
         found = found & reach(crowd, level, dom[s]);
     }
     found
@@ -56,7 +52,7 @@ fn upper(crowd: &Crowds, r: u32, forced: Forced, dom: &Domains) -> u64
         (λ people c. Limited people c forced.wide forced.used dom.now forced.count (most_in r) result) }
 {
     let parts = apart(crowd, rule::level(r), forced.wide, forced.used, dom);
-    let total = forced.count + small::size(parts.heads);
+    let total = forced.count + parts.heads.size();
     let highest = rule::most(r);
     if total > highest {
         return 0;
@@ -75,7 +71,7 @@ fn hopeless(crowd: &Crowds, r: u32, forced: Forced, dom: &Domains) -> bool
         (λ people c. Hopeless people c r forced.wide forced.used dom.now forced.count (ones forced.wide)) }
 {
     let groups = forced.count;
-    let open = small::size(forced.wide);
+    let open = forced.wide.size();
     if !rule::can_be_met(r, groups, open) {
         return true;
     }
@@ -96,7 +92,7 @@ fn allowed(crowd: &Crowds, r: u32, forced: Forced, dom: &Domains) -> u64
         (λ people c. Allowed people c r forced.wide forced.used dom.now forced.count (ones forced.wide) result) }
 {
     let groups = forced.count;
-    let open = small::size(forced.wide);
+    let open = forced.wide.size();
     let highest = rule::most(r);
     if groups == 0 {
         if highest == 1 {
@@ -112,38 +108,29 @@ fn allowed(crowd: &Crowds, r: u32, forced: Forced, dom: &Domains) -> u64
 }
 
 // Narrows the domains by how many classes a rule asks for.
-fn by_count(crowd: &Crowds, r: u32, dom: &mut Domains) -> Revision
+fn by_count(crowd: &Crowds, r: u32, dom: &mut Domains) -> Result<u16, Unmet>
     requires { OneLevel crowd.now (level_in r) × (scope_in r < 4096) × (length dom.old ≡ 12) }
-    ensures { ForJobs crowd.now r (λ j. Revised j (unpacked r) dom.old dom.new result.failed)
-        × (result.changed < 4096) }
+    ensures { ForJobs crowd.now r (λ j. Revised j (unpacked r) dom.old dom.new (is_err result))
+        × IfOk result (λ changed. changed < 4096) }
 {
     let forced = fixed(crowd, rule::level(r), rule::scope(r), dom);
     if hopeless(crowd, r, forced, dom) {
-        return Revision {
-            failed: true,
-            changed: 0,
-        };
+        return Err(Unmet);
     }
     let people = allowed(crowd, r, forced, dom);
     restrict(forced.wide, people, dom)
 }
 
 // Narrows the domains by one rule. Where no class can hold too many steps, its load asks for nothing.
-pub fn revise(crowd: &Crowds, r: u32, dom: &mut Domains) -> Revision
+pub fn revise(crowd: &Crowds, r: u32, dom: &mut Domains) -> Result<u16, Unmet>
     requires { OneLevel crowd.now (level_in r) × (scope_in r < 4096) × (length dom.old ≡ 12) }
-    ensures { ForJobs crowd.now r (λ j. Revised j (unpacked r) dom.old dom.new result.failed)
-        × (result.changed < 4096) }
+    ensures { ForJobs crowd.now r (λ j. Revised j (unpacked r) dom.old dom.new (is_err result))
+        × IfOk result (λ changed. changed < 4096) }
 {
-    let first = by_count(crowd, r, dom);
-    if first.failed {
-        return first;
-    }
+    let first = by_count(crowd, r, dom)?;
     if !rule::limits_load(r) {
-        return first;
+        return Ok(first);
     }
-    let second = by_load(crowd, r, dom);
-    Revision {
-        failed: second.failed,
-        changed: first.changed | second.changed,
-    }
+    let second = by_load(crowd, r, dom)?;
+    Ok(first | second)
 }

@@ -4,8 +4,7 @@ ghost use Rattle.eligible.specs.Classes.{OneLevel, ForClasses};
 ghost use Rattle.narrow.specs.Spreading.{Firsts, Spread};
 
 use super::sets::all_of;
-use bits::set;
-use bits::set::ALL;
+use bits::set::{ALL, Set, members};
 use bits::sizes::{Crowds, Domains};
 use eligible::classes::mates;
 
@@ -15,12 +14,10 @@ fn firsts(crowd: &Crowds, level: usize, domain: u64) -> u64
     ensures { ForClasses crowd.now level (λ people c. Firsts people c domain 0 result) }
 {
     let mut found: u64 = 0;
-    let mut left = domain;
-    while left != 0 {
-        let next = set::take(left);
-        let p = next.first;
-        found = set::with(found, p);
-        left = next.rest & (mates(crowd, level, p) ^ ALL);
+    let mut left = members(domain);
+    while let Some(p) = left.next() {
+        found = found.with(p);
+        left.left = left.left & (mates(crowd, level, p) ^ ALL);
     }
     found
 }
@@ -31,5 +28,5 @@ pub fn spread(crowd: &Crowds, level: usize, steps: u16, used: u64, dom: &Domains
     ensures { (result ≤ 64) × ForClasses crowd.now level (λ people c. Spread people c steps used dom.now result) }
 {
     let others = all_of(steps, dom) & (used ^ ALL);
-    set::size(firsts(crowd, level, others))
+    firsts(crowd, level, others).size()
 }

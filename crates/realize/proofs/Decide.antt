@@ -1,5 +1,6 @@
 -- The graph that the tables hold is that of Lemma 3.9, so its matchings decide. Assumes nothing.
 use mathlib.Core.Bool.{Bool, true, false}
+use Rattle.std.specs.Prelude.{Option, None, Some, is_some}
 use mathlib.Core.List.{List}
 use mathlib.Core.Logic.{⊎_elim}
 use mathlib.Core.Path.{◌≡◌, refl, sym, subst, ap, ◌∙◌}
@@ -212,24 +213,22 @@ module _ {j : Job} {may label nest reach : List ℕ} {t : Task} (deep : t.q < t.
 -- ---- the answers of `cover`
 
 -- what is found is an assignment along the rows
-pub covering_assigned : {may label nest reach : List ℕ} {t : Task} {found : Bool} {at : List ℕ} (w : Covering may label nest reach t found at) → found ≡ true
-    → (edges : List ℕ) × Linked may label nest reach t w.heads 0 edges × Assignment (in_mask w.heads) (suits edges) (class_at at)
-covering_assigned w e = ⊎_elim (λ u. true-false e u.0) (λ x. (x.0, x.1, x.2.sound e)) w.answer
+pub covering_assigned : {may label nest reach : List ℕ} {t : Task} {at : List ℕ} (w : Covering may label nest reach t (Some at)) → (edges : List ℕ) × Linked may label nest reach t w.heads 0 edges × Assignment (in_mask w.heads) (suits edges) (class_at at)
+covering_assigned w = ⊎_elim (λ u. true-false (ap is_some (sym u.0)) refl) (λ x. (x.0, x.1, x.2.sound refl)) w.answer
 
-module _ {j : Job} {may label nest reach : List ℕ} {t : Task} (deep : t.q < t.levels) (few : t.steps < 4096) (part : Part j may label nest reach t)
-    {found : Bool} {at : List ℕ} (w : Covering may label nest reach t found at) where
-  covering_realized : found ≡ true → Doable j may label t
-  covering_realized e =
-      let a = covering_assigned w e in
+module _ {j : Job} {may label nest reach : List ℕ} {t : Task} (deep : t.q < t.levels) (few : t.steps < 4096) (part : Part j may label nest reach t) where
+  covering_realized : {at : List ℕ} → Covering may label nest reach t (Some at) → Doable j may label t
+  covering_realized {at} w =
+      let a = covering_assigned w in
       match_realized j (may_in may) (label_in label) t.q (depth deep part) (has_bit t.steps) (people_in j t) part.tables.refining
       part.steps.consistent (part.steps.labelled (suc t.q) (omega arith) (depth deep part)) (class_at at)
       (assignment_matching deep few part w.mask a.1 (class_at at) a.2)
 
-  pub covering_not : found ≡ false → Doable j may label t → ⊥
-  covering_not e r =
+  pub covering_not : Covering may label nest reach t None → Doable j may label t → ⊥
+  covering_not w r =
       ⊎_elim
       (λ u. unhosted_not deep few part w.mask u.1 r)
-      (λ x. covers_not deep few part w.mask x.1 x.2 e r)
+      (λ x. covers_not deep few part w.mask x.1 x.2 refl r)
       w.answer
 
 -- ---- the answers of `decide`
@@ -263,8 +262,9 @@ module _ {may label nest reach : List ℕ} {t : Task} where
   }
 
   -- a matching, or none
-  pub decided_covering : {found : Bool} {at : List ℕ} → t.q < t.levels → t.steps < 4096 → Covering may label nest reach t found at
-      → Decided may label nest reach t found
-  decided_covering {found} deep few w = record {
-    says = λ j part. says_of found _ (covering_realized deep few part w) (covering_not deep few part w);
-  }
+  pub decided_covering : (found : Option (List ℕ)) → t.q < t.levels → t.steps < 4096 → Covering may label nest reach t found
+      → Decided may label nest reach t (is_some found)
+  decided_covering None deep few w =
+      record { says = λ j part. says_of false _ (λ e. true-false e refl) (λ e. covering_not deep few part w) }
+  decided_covering (Some at) deep few w =
+      record { says = λ j part. says_of true _ (λ e. covering_realized deep few part w) (λ e. true-false refl e) }

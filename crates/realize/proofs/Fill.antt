@@ -1,5 +1,6 @@
 -- Writing a plan along a matching, group by group. Assumes nothing.
-use mathlib.Core.Bool.{Bool, true, false}
+use mathlib.Core.Bool.{true, false}
+use Rattle.std.specs.Prelude.{None, Some}
 use mathlib.Core.List.{List, [], ◌∷◌}
 use mathlib.Core.Path.{◌≡◌, refl, sym, subst, ◌∙◌}
 use Prim.Native.Nat.{ℕ, zero, suc, ◌+◌, ◌≤◌, ◌<◌}
@@ -49,10 +50,10 @@ module _ (heads : ℕ) (edges at : List ℕ) (a : Assignment (in_mask heads) (su
       }
 
 -- `cover` does not return its mask of the groups, so any other serves
-pub class_given : {may label nest reach : List ℕ} {t : Task} {found : Bool} {at : List ℕ} {heads : ℕ} → Covering may label nest reach t found at → found ≡ true
+pub class_given : {may label nest reach : List ℕ} {t : Task} {at : List ℕ} {heads : ℕ} → Covering may label nest reach t (Some at)
     → Mask (groups_in label t) heads → heads < 4096 → (g : ℕ) → has_bit heads g ≡ true → get_or at g 0 < 64
-class_given {at = at} {heads = heads} w e mask few g h =
-    let a = covering_assigned w e in
+class_given {at = at} {heads = heads} w mask few g h =
+    let a = covering_assigned w in
     let i = and_of (ltb g 12) (has_bit w.heads g) (lt-ltb g 12 (has_below 12 heads g few h)) (mask_has w.mask g (mask_in mask g h)) in
     subst (λ (x : ℕ). x < 64) (given w.heads a.0 at a.2 g i) (below w.heads a.0 at a.2 g i)
 
@@ -111,15 +112,15 @@ module _ {may label nest reach : List ℕ} {t : Task} where
             (last_below d part (plan_in after s) a.0, last_in d part (plan_in after s) ∙ a.0, a.1));
       }
 
-  module _ {found : Bool} {at : List ℕ} (deep : t.q < t.levels) (few : t.steps < 4096) (w : Covering may label nest reach t found at) where
+  module _ (deep : t.q < t.levels) (few : t.steps < 4096) where
     -- no matching: the steps cannot go to the people, and nothing is written
-    pub filled_none : {plan : List ℕ} → found ≡ false → Filled may label nest reach t plan plan
-    filled_none {plan} e = record { kept = untouched t.steps plan; sends = λ j part r. absurd (covering_not deep few part w e r) }
+    pub filled_none : {plan : List ℕ} → Covering may label nest reach t None → Filled may label nest reach t plan plan
+    filled_none {plan} w = record { kept = untouched t.steps plan; sends = λ j part r. absurd (covering_not deep few part w r) }
 
     -- a matching, and each group sent to its class
-    pub filled_sent : {heads rest : ℕ} {before after : List ℕ} → found ≡ true → Mask (groups_in label t) heads
+    pub filled_sent : {heads rest : ℕ} {at before after : List ℕ} → Covering may label nest reach t (Some at) → Mask (groups_in label t) heads
         → Sent may label nest reach t heads rest at before after → rest ≡ 0 → Filled may label nest reach t before after
-    filled_sent {heads} {rest} {before} {after} e mask sent z = record { kept = sent.kept; sends = sends }
+    filled_sent {heads} {rest} {at} {before} {after} w mask sent z = record { kept = sent.kept; sends = sends }
       where
         sends : Sends may label nest reach t after
         sends j part r =
@@ -131,7 +132,7 @@ module _ {may label nest reach : List ℕ} {t : Task} where
             f g = get_or at g 0
 
             m : Matching j.steps (groups_in label t) (EdgeOf j may label t) f
-            m = let a = covering_assigned w e in assignment_matching deep few part w.mask a.1 f (assignment_at w.heads a.0 at a.2)
+            m = let a = covering_assigned w in assignment_matching deep few part w.mask a.1 f (assignment_at w.heads a.0 at a.2)
 
             each : (g : ℕ) → g < j.steps → groups_in label t g ≡ true
                 → Realizes j (may_in may) (label_in label) (suc t.q) (group_in label t g) (classmates j t (f g)) (plan_in after)

@@ -1,5 +1,6 @@
 -- The graph of groups and classes, filled in class by class and group by group. Assumes nothing.
 use mathlib.Core.Bool.{Bool, true, false}
+use Rattle.std.specs.Prelude.{Option, None, is_some}
 use mathlib.Core.List.{List}
 use mathlib.Core.Logic.{inl, inr}
 use mathlib.Core.Path.{◌≡◌, refl, sym, subst, ap, ◌∙◌}
@@ -17,7 +18,7 @@ use Rattle.bits.proofs.Below.{by_cases, true-false}
 use Rattle.bits.proofs.Counting.{and_of}
 use Rattle.bits.proofs.Masks.{mask_in, taken_was}
 use Rattle.bits.proofs.SetLaws.{and-bit, and-bit_left, and-bit_right, empty_lacks, zero_empty, has_below, part_le, added_has, added_other, removed_other, removed_differs}
-use Rattle.matching.specs.Assignment.{Covers, in_mask, suits, class_at}
+use Rattle.matching.specs.Assignment.{Covers, in_mask, suits, classes_of}
 use Rattle.workflow.specs.Problem.{Job, May}
 use Rattle.pattern.specs.Pattern.{Label}
 use Rattle.pattern.specs.Tables.{may_in, label_in}
@@ -243,7 +244,8 @@ linked_next {may} {label} {nest} {reach} {t} {heads} {rest} {edges} {g} {rest'} 
 module _ {may label nest reach : List ℕ} {t : Task} {heads : ℕ} (groups_mask : Mask (groups_in label t) heads) {rest : ℕ} {edges : List ℕ}
     (w : Linked may label nest reach t heads rest edges) where
   -- each group has its row
-  pub covering_all : {found : Bool} {at : List ℕ} → rest ≡ 0 → Covers (in_mask heads) (suits edges) found (class_at at) → Covering may label nest reach t found at
+  pub covering_all : {found : Option (List ℕ)} → rest ≡ 0 → Covers (in_mask heads) (suits edges) (is_some found) (classes_of found)
+      → Covering may label nest reach t found
   covering_all e covers =
       record {
         heads = heads;
@@ -252,8 +254,8 @@ module _ {may label nest reach : List ℕ} {t : Task} {heads : ℕ} (groups_mask
       }
 
   -- a group whose row is empty
-  pub covering_none : {g group row : ℕ} {at : List ℕ} → Lowest rest g → Mask (group_in label t g) group
-      → Hosted may label nest reach (group_task t group) row → row ≡ 0 → Covering may label nest reach t false at
+  pub covering_none : {g group row : ℕ} → Lowest rest g → Mask (group_in label t g) group
+      → Hosted may label nest reach (group_task t group) row → row ≡ 0 → Covering may label nest reach t None
   covering_none {g} {group} low mask hosted e =
       record {
         heads = heads;

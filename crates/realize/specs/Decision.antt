@@ -1,12 +1,13 @@
 -- What the functions that decide promise, for every job whose tables they are given. Assumes nothing.
-use Rattle.std.specs.Prelude.{Bool, true, false, List, ◌⊎◌, ◌≡◌, ℕ, ◌+◌, ◌*◌, length, get_or}
+use Rattle.std.specs.Prelude.{Option, None, is_some, Bool, true, false, List, ◌⊎◌, ◌≡◌, ℕ, ◌+◌, ◌*◌, length, get_or}
 use Rattle.bits.specs.Word.{has_bit}
-use Rattle.matching.specs.Assignment.{Covers, in_mask, suits, class_at}
+use Rattle.matching.specs.Assignment.{Covers, in_mask, suits, classes_of}
 use Rattle.workflow.specs.Problem.{Job, May}
 use Rattle.pattern.specs.Tables.{may_in, label_in}
 use Rattle.pattern.specs.Realize.{Realized}
 use Rattle.bits.specs.Set.{Mask}
 use Rattle.bits.specs.Says.{Says}
+use Rattle.realize.specs.declared.parts.Layout.{Layout}
 use Rattle.realize.specs.declared.parts.Task.{Task}
 use Rattle.realize.specs.Parts.{Doable, groups_in, group_in, group_task, class_task, Part, TablesFor}
 
@@ -63,13 +64,27 @@ pub record Unhosted (may label nest reach : List ℕ) (t : Task) (heads : ℕ) :
 
 -- the promise of `cover`, where `heads` is the mask of the groups: one has no host, and nothing is found, or the answer is that of a matching
 -- along the rows
-pub record Covering (may label nest reach : List ℕ) (t : Task) (found : Bool) (at : List ℕ) : Type 0 where
+pub record Covering (may label nest reach : List ℕ) (t : Task) (found : Option (List ℕ)) : Type 0 where
   pub heads : ℕ
   pub mask : Mask (groups_in label t) heads
-  pub answer : ((found ≡ false) × Unhosted may label nest reach t heads)
-      ⊎ ((edges : List ℕ) × Linked may label nest reach t heads 0 edges × Covers (in_mask heads) (suits edges) found (class_at at))
+  pub answer : ((found ≡ None) × Unhosted may label nest reach t heads)
+      ⊎ ((edges : List ℕ) × Linked may label nest reach t heads 0 edges × Covers (in_mask heads) (suits edges) (is_some found) (classes_of found))
 
 -- the promise of `realizable`, for every job whose tables these are
 pub record Realizable (people levels : ℕ) (may label nest reach : List ℕ) (placed : ℕ) (r : Bool) : Type 0 where
   pub says : (j : Job) → TablesFor j people levels may label nest reach placed
       → Says r (Realized j (may_in may) (label_in label) 0 (has_bit placed) (λ p. true))
+
+-- ---- the same of a layout's arrays
+
+abbrev pub DecidedIn : Layout → Task → Bool → Type 0
+DecidedIn l = Decided l.may.now l.label.now l.nest.now l.reach.now
+
+abbrev pub HostedIn : Layout → Task → ℕ → Type 0
+HostedIn l = Hosted l.may.now l.label.now l.nest.now l.reach.now
+
+abbrev pub CoveringIn : Layout → Task → Option (List ℕ) → Type 0
+CoveringIn l = Covering l.may.now l.label.now l.nest.now l.reach.now
+
+abbrev pub RealizableIn : ℕ → ℕ → Layout → ℕ → Bool → Type 0
+RealizableIn people levels l = Realizable people levels l.may.now l.label.now l.nest.now l.reach.now

@@ -5,6 +5,7 @@ use Rattle.workflow.specs.Problem.{Job, May}
 use Rattle.pattern.specs.Tables.{may_in, label_in, plan_in}
 use Rattle.pattern.specs.Realize.{Realized, Realizes}
 use Rattle.bits.specs.Set.{Mask}
+use Rattle.realize.specs.declared.parts.Layout.{Layout}
 use Rattle.realize.specs.declared.parts.Task.{Task}
 use Rattle.realize.specs.Parts.{Does, Doable, group_in, group_task, class_task, Part, TablesFor}
 use Rattle.realize.specs.Decision.{Able}
@@ -48,3 +49,11 @@ pub record Realizing (people levels : ℕ) (may label nest reach : List ℕ) (pl
   pub realizes : (j : Job) → TablesFor j people levels may label nest reach placed
       → Realized j (may_in may) (label_in label) 0 (has_bit placed) (λ p. true)
       → Realizes j (may_in may) (label_in label) 0 (has_bit placed) (λ p. true) (plan_in after)
+
+-- ---- the same of a layout's arrays
+
+abbrev pub FilledIn : Layout → Task → List ℕ → List ℕ → Type 0
+FilledIn l = Filled l.may.now l.label.now l.nest.now l.reach.now
+
+abbrev pub RealizingIn : ℕ → ℕ → Layout → ℕ → List ℕ → List ℕ → Type 0
+RealizingIn people levels l = Realizing people levels l.may.now l.label.now l.nest.now l.reach.now

@@ -8,6 +8,7 @@ use Rattle.workflow.specs.Problem.{Job, Plan}
 use Rattle.pattern.specs.Pattern.{Label, Labelled, Consistent, Refining, Pattern}
 use Rattle.pattern.specs.Tables.{number_in, may_in, label_in}
 use Rattle.pattern.specs.Realize.{Realizes, fibre, groups}
+use Rattle.realize.specs.declared.parts.Layout.{Layout}
 use Rattle.realize.specs.declared.parts.Task.{Task}
 
 -- the arrays have their sizes, and the steps are numbered below 12
@@ -18,6 +19,14 @@ pub record ArraysSized (levels : ℕ) (may label nest reach : List ℕ) (steps :
   pub nests : length nest ≡ class_entries
   pub reaches : length reach ≡ label_entries
   pub below : steps < 4096
+
+-- a layout's arrays
+abbrev pub SizedFor : ℕ → Layout → ℕ → Type 0
+SizedFor levels l steps = ArraysSized levels l.may.now l.label.now l.nest.now l.reach.now steps
+
+-- those of a layout that a task is put to
+abbrev pub Sized : Layout → Task → Type 0
+Sized l t = SizedFor t.levels l t.steps
 
 -- ---- what the recursion is asked
 

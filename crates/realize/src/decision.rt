@@ -5,24 +5,20 @@ ghost use Rattle.bits.specs.Word.{has_bit};
 ghost use Rattle.pattern.specs.Tables.{may_in};
 ghost use Rattle.bits.specs.Says.{Says};
 ghost use Rattle.bits.specs.Sizes.{most_levels, label_entries};
-ghost use Rattle.realize.specs.Parts.{ArraysSized};
-ghost use Rattle.realize.specs.Decision.{Staffing, Decided, Candidates, Hosted, Covering};
+ghost use Rattle.realize.specs.Parts.{Sized};
+ghost use Rattle.realize.specs.Decision.{Staffing, Candidates, DecidedIn, HostedIn, CoveringIn};
 
-use crate::parts::{Task, groups_of, members};
-use bits::sizes::{Domains, Labels, MOST_PEOPLE, MOST_STEPS, Nest, Reach};
-use bits::{set, small};
-use matching::{Cover, assign};
+use crate::parts::{Layout, Task, groups_of, members};
+use bits::set::{self, Set};
+use bits::sizes::{Domains, MOST_PEOPLE, MOST_STEPS, Reach};
+use matching::{Places, assign};
 
 // Whether each step of `steps` has somebody in `people`.
 fn staffed(may: &Domains, steps: u16, people: u64) -> bool
     requires { (length may.now ≡ 12) × (steps < 4096) }
     ensures { Says result (Staffing (may_in may.now) (has_bit people) steps 0) }
 {
-    let mut rest = steps;
-    while rest != 0 {
-        let next = small::take(rest);
-        rest = next.rest;
-        let s = next.first;
+    for s in set::members(steps) {
         if may[s] & people == 0 {
             return false;
         }
@@ -36,11 +32,7 @@ fn candidates(reach: &Reach, q: usize, group: u16, inside: u64) -> u64
     ensures { Candidates reach.now q group inside 0 result }
 {
     let mut found = inside;
-    let mut rest = group;
-    while rest != 0 {
-        let next = small::take(rest);
-        rest = next.rest;
-        let s = next.first;
+    for s in set::members(group) {
         found = found & reach[q * MOST_STEPS + s];
     }
     found
@@ -49,35 +41,30 @@ fn candidates(reach: &Reach, q: usize, group: u16, inside: u64) -> u64
 // The classes of level `q` + 1 inside that can host the steps, which are group `g`. Where
 // each step has somebody, one step asks no more, nor does the last level.
 #[cycle(cover_decide_hosts)]
-fn hosts(may: &Domains, label: &Labels, nest: &Nest, reach: &Reach, task: Task, g: usize) -> u64
-    requires { ArraysSized task.levels may.now label.now nest.now reach.now task.steps × (task.q < task.levels) × (g < 16) }
-    ensures { Hosted may.now label.now nest.now reach.now task result }
+fn hosts(layout: &Layout, task: Task, g: usize) -> u64
+    requires { Sized layout.now task × (task.q < task.levels) × (g < 16) }
+    ensures { HostedIn layout.now task result }
 {
-    let row = candidates(reach, task.q, task.steps, task.inside);
+    let row = candidates(layout.reach, task.q, task.steps, task.inside);
     if task.levels <= task.q + 1 {
         return row;
     }
-    if small::without(task.steps, g) == 0 {
+    if task.steps.without(g) == 0 {
         return row;
     }
     let mut found: u64 = 0;
-    let mut rest = row;
-    while rest != 0 {
-        let next = set::take(rest);
-        rest = next.rest;
-        let v = next.first;
+    for v in set::members(row) {
         let q = task.q + 1;
-        let inside = nest[task.q * MOST_PEOPLE + v];
+        let inside = layout.nest[task.q * MOST_PEOPLE + v];
         let part = Task {
-            levels: task.levels,
             q: q,
-            steps: task.steps,
             inside: inside,
+            ..task
         };
-        if !decide(may, label, nest, reach, part) {
+        if !decide(layout, part) {
             continue;
         }
-        found = set::with(found, v);
+        found = found.with(v);
     }
     found
 }
@@ -85,30 +72,21 @@ fn hosts(may: &Domains, label: &Labels, nest: &Nest, reach: &Reach, task: Task, 
 // A class for each group of level `q` + 1 inside the steps, among those that can host it and none
 // twice, where there are enough. A group without a host ends the search.
 #[cycle(cover_decide_hosts)]
-pub fn cover(may: &Domains, label: &Labels, nest: &Nest, reach: &Reach, task: Task) -> Cover
-    requires { ArraysSized task.levels may.now label.now nest.now reach.now task.steps × (task.q < task.levels) }
-    ensures { Covering may.now label.now nest.now reach.now task result.found result.at }
+pub fn cover(layout: &Layout, task: Task) -> Option<Places>
+    requires { Sized layout.now task × (task.q < task.levels) }
+    ensures { CoveringIn layout.now task result }
 {
-    let heads = groups_of(label, task.q, task.steps);
+    let heads = groups_of(layout.label, task.q, task.steps);
     let mut edges = [0u64; MOST_STEPS];
-    let mut rest = heads;
-    while rest != 0 {
-        let next = small::take(rest);
-        rest = next.rest;
-        let g = next.first;
-        let group = members(label, task.q, g as u8, task.steps);
+    for g in set::members(heads) {
+        let group = members(layout.label, task.q, g as u8, task.steps);
         let part = Task {
-            levels: task.levels,
-            q: task.q,
             steps: group,
-            inside: task.inside,
+            ..task
         };
-        let row = hosts(may, label, nest, reach, part, g);
+        let row = hosts(layout, part, g);
         if row == 0 {
-            return Cover {
-                found: false,
-                at: [0; MOST_STEPS],
-            };
+            return None;
         }
         edges[g] = row;
     }
@@ -117,13 +95,12 @@ pub fn cover(may: &Domains, label: &Labels, nest: &Nest, reach: &Reach, task: Ta
 
 // Whether the steps can go to the people.
 #[cycle(cover_decide_hosts)]
-pub fn decide(may: &Domains, label: &Labels, nest: &Nest, reach: &Reach, task: Task) -> bool
-    requires { ArraysSized task.levels may.now label.now nest.now reach.now task.steps }
-    ensures { Decided may.now label.now nest.now reach.now task result }
+pub fn decide(layout: &Layout, task: Task) -> bool
+    requires { Sized layout.now task }
+    ensures { DecidedIn layout.now task result }
 {
     if task.levels <= task.q {
-        return staffed(may, task.steps, task.inside);
+        return staffed(layout.may, task.steps, task.inside);
     }
-    let cover = cover(may, label, nest, reach, task);
-    cover.found
+    cover(layout, task).is_some()
 }

@@ -9,15 +9,15 @@ mod plan;
 pub mod tables;
 
 ghost use Rattle.std.specs.Prelude.{◌≡◌, ◌≤◌, length};
-ghost use Rattle.realize.specs.Parts.{ArraysSized, WholeTask};
-ghost use Rattle.realize.specs.Decision.{Realizable};
-ghost use Rattle.realize.specs.Filling.{Realizing};
+ghost use Rattle.realize.specs.Parts.{SizedFor, WholeTask};
+ghost use Rattle.realize.specs.Decision.{RealizableIn};
+ghost use Rattle.realize.specs.Filling.{RealizingIn};
 
 use crate::decision::decide;
-use crate::parts::Task;
+use crate::parts::{Layout, Task};
 use crate::plan::fill;
-use bits::set;
-use bits::sizes::{Domains, Labels, Nest, Plan, Reach};
+use bits::set::Set;
+use bits::sizes::Plan;
 use pattern::Size;
 
 // What is asked at first: the placed steps are to go to anybody. There are no more classes than people.
@@ -29,38 +29,23 @@ fn whole(size: Size, placed: u16) -> Task
         levels: size.levels,
         q: 0,
         steps: placed,
-        inside: set::below(size.people),
+        inside: u64::below(size.people),
     }
 }
 
 // Whether the pattern of the placed steps can be realized.
-pub fn realizable(
-    size: Size,
-    may: &Domains,
-    label: &Labels,
-    nest: &Nest,
-    reach: &Reach,
-    placed: u16,
-) -> bool
-    requires { ArraysSized size.levels may.now label.now nest.now reach.now placed × (size.people ≤ 64) }
-    ensures { Realizable size.people size.levels may.now label.now nest.now reach.now placed result }
+pub fn realizable(size: Size, layout: &Layout, placed: u16) -> bool
+    requires { SizedFor size.levels layout.now placed × (size.people ≤ 64) }
+    ensures { RealizableIn size.people size.levels layout.now placed result }
 {
-    decide(may, label, nest, reach, whole(size, placed))
+    decide(layout, whole(size, placed))
 }
 
 // Writes a plan of the placed steps that realizes the pattern. The other steps keep their people; where
 // the pattern cannot be realized, nothing is said of the placed ones.
-pub fn realize(
-    size: Size,
-    may: &Domains,
-    label: &Labels,
-    nest: &Nest,
-    reach: &Reach,
-    placed: u16,
-    plan: &mut Plan,
-)
-    requires { ArraysSized size.levels may.now label.now nest.now reach.now placed × (size.people ≤ 64) × (length plan.old ≡ 12) }
-    ensures { Realizing size.people size.levels may.now label.now nest.now reach.now placed plan.old plan.new }
+pub fn realize(size: Size, layout: &Layout, placed: u16, plan: &mut Plan)
+    requires { SizedFor size.levels layout.now placed × (size.people ≤ 64) × (length plan.old ≡ 12) }
+    ensures { RealizingIn size.people size.levels layout.now placed plan.old plan.new }
 {
-    fill(may, label, nest, reach, whole(size, placed), plan);
+    fill(layout, whole(size, placed), plan);
 }

@@ -1,13 +1,13 @@
 // What the recursion over the levels is asked, and the groups of a set of steps.
-ghost use Rattle.std.specs.Prelude.{cond, ◌&&◌, ◌≡◌, suc, ◌<◌, eqb, length};
+ghost use Rattle.std.specs.Prelude.{ℕ, Bool, ◌&&◌, ◌≡◌, suc, ◌<◌, length};
 ghost use Rattle.bits.specs.Word.{has_bit};
 ghost use Rattle.pattern.specs.Tables.{label_in};
 ghost use Rattle.pattern.specs.Realize.{fibre, groups};
 ghost use Rattle.bits.specs.Set.{Mask};
 ghost use Rattle.bits.specs.Sizes.{most_levels, label_entries};
 
-use bits::sizes::{Labels, MOST_STEPS};
-use bits::small;
+use bits::set::{self, Set};
+use bits::sizes::{Domains, Labels, MOST_STEPS, Nest, Reach};
 
 // The steps are to go to the classes of level `q` + 1 that are inside, or after the last level to the people, with
 // the labels of the levels below `q`.
@@ -19,32 +19,28 @@ pub struct Task {
     pub inside: u64,
 }
 
-// The label that is looked for at step `s`: with `own` that is the step itself, else `g`.
-fn wanted(own: bool, s: usize, g: u8) -> u8
-    requires { s < 16 }
-    ensures { result ≡ cond own s g }
-{
-    if own {
-        return s as u8;
-    }
-    g
+// What a pattern is tested by: the people who may do each step, the labels of the steps' groups, what lies inside each class, and the
+// classes with somebody for each step.
+#[derive(Clone, Copy)]
+pub struct Layout<'a> {
+    pub may: &'a Domains,
+    pub label: &'a Labels,
+    pub nest: &'a Nest,
+    pub reach: &'a Reach,
 }
 
-// Those of `steps` that have the label looked for at level `q` + 1.
-fn labelled(label: &Labels, q: usize, steps: u16, own: bool, g: u8) -> u16
-    requires { (length label.now ≡ label_entries) × (q < most_levels) × (steps < 4096) }
-    ensures { Mask (λ s. has_bit steps s && eqb (label_in label.now (suc q) s) (cond own s g)) result }
+// Those of `steps` whose label at level `q` + 1 is picked.
+fn labelled<F: Fn(usize, u8) -> bool>(label: &Labels, q: usize, steps: u16, picks: F) -> u16
+    requires sized { (length label.now ≡ label_entries) × (q < most_levels) × (steps < 4096) }
+    requires callable { F.IsAlwaysCallable picks }
+    ensures { (test : ℕ → ℕ → Bool) → ((s g : ℕ) (b : Bool) → F.post picks s g b → b ≡ test s g)
+        → Mask (λ s. has_bit steps s && test s (label_in label.now (suc q) s)) result }
 {
     let mut found: u16 = 0;
-    let mut rest = steps;
-    while rest != 0 {
-        let next = small::take(rest);
-        rest = next.rest;
-        let s = next.first;
-        if label[q * MOST_STEPS + s] != wanted(own, s, g) {
-            continue;
+    for s in set::members(steps) {
+        if picks(s, label[q * MOST_STEPS + s]) {
+            found = found.with(s);
         }
-        found = small::with(found, s);
     }
     found
 }
@@ -54,7 +50,7 @@ pub fn members(label: &Labels, q: usize, g: u8, steps: u16) -> u16
     requires { (length label.now ≡ label_entries) × (q < most_levels) × (steps < 4096) }
     ensures { Mask (fibre (has_bit steps) (label_in label.now (suc q)) g) result }
 {
-    labelled(label, q, steps, false, g)
+    labelled(label, q, steps, |_, group| group == g)
 }
 
 // The groups of level `q` + 1 inside `steps`: each is named by its label, which is one of its steps.
@@ -62,5 +58,5 @@ pub fn groups_of(label: &Labels, q: usize, steps: u16) -> u16
     requires { (length label.now ≡ label_entries) × (q < most_levels) × (steps < 4096) }
     ensures { Mask (groups (has_bit steps) (label_in label.now (suc q))) result }
 {
-    labelled(label, q, steps, true, 0)
+    labelled(label, q, steps, |s, group| group as usize == s)
 }

@@ -2,63 +2,53 @@
 ghost use Rattle.std.specs.Prelude.{◌≡◌, ◌<◌, length};
 ghost use Rattle.bits.specs.Word.{has_bit};
 ghost use Rattle.pattern.specs.Tables.{may_in};
-ghost use Rattle.realize.specs.Parts.{ArraysSized};
-ghost use Rattle.realize.specs.Filling.{StaffedBy, Filled};
+ghost use Rattle.realize.specs.Parts.{Sized};
+ghost use Rattle.realize.specs.Filling.{StaffedBy, FilledIn};
 
 use crate::decision::cover;
-use crate::parts::{Task, groups_of, members};
-use bits::sizes::{Domains, Labels, MOST_PEOPLE, Nest, Plan, Reach};
-use bits::{set, small};
+use crate::parts::{Layout, Task, groups_of, members};
+use bits::set::{self, Set};
+use bits::sizes::{Domains, MOST_PEOPLE, Plan};
 
 // Gives each step of `steps` the first of `people` who may do it.
 fn staff(may: &Domains, steps: u16, people: u64, plan: &mut Plan)
     requires { (length may.now ≡ 12) × (steps < 4096) × (length plan.old ≡ 12) }
     ensures { StaffedBy (may_in may.now) (has_bit people) steps 0 plan.old plan.new }
 {
-    let mut rest = steps;
-    while rest != 0 {
-        let next = small::take(rest);
-        rest = next.rest;
-        let s = next.first;
+    for s in set::members(steps) {
         let able = may[s] & people;
         if able == 0 {
             continue;
         }
-        plan[s] = set::lowest(able) as u8;
+        plan[s] = able.lowest() as u8;
     }
 }
 
 // Gives the steps people, where they can go to them: each group of the next level gets people of the
 // class that a matching has for it.
-pub fn fill(may: &Domains, label: &Labels, nest: &Nest, reach: &Reach, task: Task, plan: &mut Plan)
-    requires { ArraysSized task.levels may.now label.now nest.now reach.now task.steps × (length plan.old ≡ 12) }
-    ensures { Filled may.now label.now nest.now reach.now task plan.old plan.new }
+pub fn fill(layout: &Layout, task: Task, plan: &mut Plan)
+    requires { Sized layout.now task × (length plan.old ≡ 12) }
+    ensures { FilledIn layout.now task plan.old plan.new }
 {
     if task.levels <= task.q {
-        staff(may, task.steps, task.inside, plan);
+        staff(layout.may, task.steps, task.inside, plan);
         return;
     }
-    let cover = cover(may, label, nest, reach, task);
-    if !cover.found {
+    let Some(at) = cover(layout, task) else {
         return;
-    }
-    let at = cover.at;
-    let heads = groups_of(label, task.q, task.steps);
-    let mut rest = heads;
-    while rest != 0 {
-        let next = small::take(rest);
-        rest = next.rest;
-        let g = next.first;
+    };
+    let heads = groups_of(layout.label, task.q, task.steps);
+    for g in set::members(heads) {
         let v = at[g] as usize;
-        let group = members(label, task.q, g as u8, task.steps);
+        let group = members(layout.label, task.q, g as u8, task.steps);
         let q = task.q + 1;
-        let inside = nest[task.q * MOST_PEOPLE + v];
+        let inside = layout.nest[task.q * MOST_PEOPLE + v];
         let part = Task {
-            levels: task.levels,
             q: q,
             steps: group,
             inside: inside,
+            ..task
         };
-        fill(may, label, nest, reach, part, plan);
+        fill(layout, part, plan);
     }
 }

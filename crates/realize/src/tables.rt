@@ -5,7 +5,7 @@ ghost use Rattle.pattern.specs.Given.{ClassTable};
 ghost use Rattle.pattern.specs.Nesting.{Nesting};
 ghost use Rattle.realize.specs.Parts.{Holding, ReachedFrom, Reachable};
 
-use bits::set;
+use bits::set::Set;
 use bits::sizes::{Classes, Domains, LABEL_ENTRIES, MOST_PEOPLE, MOST_STEPS, Nest, Reach};
 use pattern::table::alone;
 
@@ -25,7 +25,7 @@ fn holding(nest: &Nest, q: usize, these: u64) -> u64
         if common == 0 {
             continue;
         }
-        found = set::with(found, v);
+        found = found.with(v);
     }
     found
 }
@@ -44,7 +44,7 @@ fn level_reach(
         × ReachedFrom people class.now may.now ((q + 1) * 12) (levels * 12) reach.old }
     ensures { ReachedFrom people class.now may.now (q * 12) (levels * 12) reach.new }
 {
-    let all = set::below(people);
+    let all = u64::below(people);
     let own = alone(people, class, q);
     for s in 0..MOST_STEPS {
         let x = q * MOST_STEPS + s;

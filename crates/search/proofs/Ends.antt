@@ -2,6 +2,7 @@
 -- that of the pattern. Assumes nothing.
 use mathlib.Core.Bool.{Bool, true, false, not, ◌&&◌, ◌||◌}
 use mathlib.Core.List.{List}
+use Rattle.std.specs.Prelude.{Option, None, Some}
 use mathlib.Core.Path.{◌≡◌, refl, sym, subst, ap, ◌∙◌}
 use Prim.Native.Nat.{ℕ, ◌≤◌, ◌<◌}
 use native.Mathlib.Omega.{arith}
@@ -38,7 +39,7 @@ use Rattle.search.specs.Existence.{Named, AllStaffed, GivesFirst, Existence}
 use Rattle.search.specs.State.{Patterned, Reached, Completed, FindOutcome}
 use Rattle.realize.specs.Filling.{Realizing}
 use Rattle.search.proofs.Node.{sized, known}
-use Rattle.search.proofs.Staff.{foremost_least}
+use Rattle.search.proofs.Staff.{lowest_least}
 
 -- the mask of all numbers below n
 pub all_below : {n all : ℕ} → Mask (λ i. ltb i n) all → (i : ℕ) → has_bit all i ≡ true → i < n
@@ -108,29 +109,19 @@ reached_valid {j} {may} {placed} {label} ok w π r others =
 -- a job of these counts and rules, whatever its classes
 module _ {size : Size} {class : ℕ → ℕ → ℕ} {rule : List ℕ} (ruled : Ruled size rule) (may : List ℕ) where
   -- a step that nobody may do
-  pub existence_unstaffed : (plan : List ℕ) → length plan ≡ 12 → (r : Bool) → Says r (AllStaffed size.steps size.people may) → not r ≡ true
-      → Existence (job_with size class rule) (may_in may) plan plan false
-  existence_unstaffed plan e r says f =
-      record {
-        sized = e;
-        won = λ t. true-false refl (sym t);
-        lost = λ t w. says_false r (AllStaffed size.steps size.people may) says (not-true r f) (λ s l. (w.0 s, w.1.within s l, w.1.authorised s l));
-        kept = λ t. refl;
-      }
+  pub existence_unstaffed : (r : Bool) → Says r (AllStaffed size.steps size.people may) → not r ≡ true
+      → Existence (job_with size class rule) (may_in may) None
+  existence_unstaffed r says f =
+      λ w. says_false r (AllStaffed size.steps size.people may) says (not-true r f) (λ s l. (w.0 s, w.1.within s l, w.1.authorised s l))
 
   -- a rule that cannot be met
-  pub existence_ruled_out : Refining (job_with size class rule) → (plan label : List ℕ) → length plan ≡ 12 → (all : ℕ) → Mask (λ i. ltb i size.rules) all → (r : Bool)
-      → ForSteps all rule (λ steps. Says r (Among steps all rule 0 label)) → not r ≡ true → Existence (job_with size class rule) (may_in may) plan plan false
-  existence_ruled_out refining plan label e all mask r says f =
+  pub existence_ruled_out : Refining (job_with size class rule) → (label : List ℕ) → (all : ℕ) → Mask (λ i. ltb i size.rules) all → (r : Bool)
+      → ForSteps all rule (λ steps. Says r (Among steps all rule 0 label)) → not r ≡ true → Existence (job_with size class rule) (may_in may) None
+  existence_ruled_out refining label all mask r says f =
       let n = says_false r (Among size.steps all rule 0 label) (says size.steps (λ i h. ruled.scopes i (all_below mask i h))) (not-true r f) in
       let j = job_with size class rule in
-      record {
-        sized = e;
-        won = λ t. true-false refl (sym t);
-        lost = λ t w. n (λ i h.
-            exists_possible j (may_in may) (has_bit 0) (label_in label) (searchable ruled refining) (nothing_exists j (may_in may) label w) i (all_below mask i h));
-        kept = λ t. refl;
-      }
+      λ w. n (λ i h.
+      exists_possible j (may_in may) (has_bit 0) (label_in label) (searchable ruled refining) (nothing_exists j (may_in may) label w) i (all_below mask i h))
 
   pub start_patterned : (label : List ℕ) → length label ≡ label_entries → Patterned (job_with size class rule) 0 label
   start_patterned label e = nothing_patterned (job_with size class rule) (may_in may) label e
@@ -155,17 +146,9 @@ module _ {size : Size} {class : ℕ → ℕ → ℕ} {rule : List ℕ} (ruled : 
       }
 
   -- the search fails
-  pub existence_lost : (plan label : List ℕ) {rest : ℕ} {last : List ℕ} (r : Bool) → length plan ≡ 12
-      → FindOutcome (job_with size class rule) (may_in may) 0 rest label last r → not r ≡ true
-      → Existence (job_with size class rule) (may_in may) plan plan false
-  existence_lost plan label r e o f =
-      let j = job_with size class rule in
-      record {
-        sized = e;
-        won = λ t. true-false refl (sym t);
-        lost = λ t w. o.lost (not-true r f) (nothing_exists j (may_in may) label w);
-        kept = λ t. refl;
-      }
+  pub existence_lost : (label : List ℕ) {rest : ℕ} {last : List ℕ} (r : Bool)
+      → FindOutcome (job_with size class rule) (may_in may) 0 rest label last r → not r ≡ true → Existence (job_with size class rule) (may_in may) None
+  existence_lost label r o f = λ w. o.lost (not-true r f) (nothing_exists (job_with size class rule) (may_in may) label w)
 
 -- the search succeeds: the steps named are placed
 module _ {size : Size} {nest rule : List ℕ} (given : Nest size nest rule) (may : List ℕ) where
@@ -179,34 +162,25 @@ module _ {size : Size} {nest rule : List ℕ} (given : Nest size nest rule) (may
   finished_sized {rest} {label} {last} r e o f w = sized given.ruled may rest last e (finished r o f).patterned given.sized w
 
   pub existence_won : {reach : List ℕ} → Offers (nested_job size nest rule) may reach → {rest : ℕ} {label last plan plan' : List ℕ}
-      (first : List ℕ) (a r : Bool) → Says a (AllStaffed size.steps size.people may) → not a ≡ false
+      (a r : Bool) → Says a (AllStaffed size.steps size.people may) → not a ≡ false
       → FindOutcome (nested_job size nest rule) (may_in may) 0 rest label last r → not r ≡ false → GivesFirst size.steps may plan
       → Realizing size.people size.levels may last nest reach rest plan plan'
-      → Existence (nested_job size nest rule) (may_in may) first plan' true
-  existence_won offers {rest} {label} {last} {plan} {plan'} first a r says f o g spread filled =
+      → Existence (nested_job size nest rule) (may_in may) (Some plan')
+  existence_won offers {rest} {label} {last} {plan} {plan'} a r says f o g spread filled =
       let all = says_true a (AllStaffed size.steps size.people may) says (not-false a f) in
-      let w = finished r o g in
-      record {
-        sized = filled.kept.sized ∙ spread.sized;
-        won = λ t.
-            reached_valid (searchable given.ruled (nested_refining size nest rule)) w (plan_in plan')
+      let w = finished r o g in (
+        filled.kept.sized ∙ spread.sized,
+        reached_valid (searchable given.ruled (nested_refining size nest rule)) w (plan_in plan')
             (filled.realizes (nested_job size nest rule) (known given may rest last offers w.patterned) w.passed.realized)
             (λ s l h.
             let x = all s l in
-            let f = spread.each s l in
+            let f = spread.each s l (λ z. true-false x.2 (zero_empty _ z x.0)) in
             let e : plan_in plan' s ≡ plan_in plan s = filled.kept.kept s h in
-            let m : plan_in plan s ≤ x.0 = foremost_least f x.0 x.2 in
-            (omega (arith, x.1), subst (λ (p : ℕ). may_in may s p ≡ true) (sym e) (f.has (omega (arith, x.1, given.few_people)))));
-        lost = λ t. true-false refl t;
-        kept = λ t. true-false refl t;
-      }
+            let m : plan_in plan s ≤ x.0 = lowest_least f x.0 x.2 in
+            (omega (arith, x.1), subst (λ (p : ℕ). may_in may s p ≡ true) (sym e) f.has)),
+      )
 
 -- what is found of a job is found of every other with the same plans
-pub existence_moves : {j j' : Job} → SamePlans j j' → (may : May) {plan plan' : List ℕ} {r : Bool} → Existence j' may plan plan' r → Existence j may plan plan' r
-existence_moves same may {plan' = plan'} x =
-    record {
-      sized = x.sized;
-      won = λ e. (same.valid may (plan_in plan')).1 (x.won e);
-      lost = λ e (π, v). x.lost e (π, (same.valid may π).0 v);
-      kept = x.kept;
-    }
+pub existence_moves : {j j' : Job} → SamePlans j j' → (may : May) (found : Option (List ℕ)) → Existence j' may found → Existence j may found
+existence_moves same may None x = λ (π, v). x (π, (same.valid may π).0 v)
+existence_moves same may (Some plan) x = (x.0, (same.valid may (plan_in plan)).1 x.1)

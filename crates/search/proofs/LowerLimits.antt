@@ -11,7 +11,7 @@ use lib.Count.{ones}
 use lib.Dec.{eqb, ltb}
 use lib.ListN.{get_or, set, replicate, length-set, length-replicate}
 use lib.Seq.{get_or-set_same, get_or-set_other}
-use borrow.Author.Tests.{eqb-true, eqb-false, eq-eqb, ne_eqb, lt-ltb, not-true, not-false}
+use borrow.Author.Tests.{eqb-true, eqb-false, eq-eqb, ne_eqb, lt-ltb, not-true}
 use Rattle.bits.specs.Below.{count}
 use Rattle.bits.specs.Word.{has_bit, bits_set}
 use Rattle.bits.specs.Set.{unlike, Added, Removed, Lowest}
@@ -25,7 +25,7 @@ use Rattle.workflow.proofs.Counts.{opens_scope, opens_new}
 use Rattle.matching.specs.Assignment.{Assignment, Covers, in_mask, suits}
 use Rattle.pattern.specs.Rule.{level_in, least_in, scope_in}
 use Rattle.relax.proofs.Bounding.{count_before}
-use Rattle.search.specs.Limits.{Gathering, Extra, Extras, Edges, Manned, ReachesLeast, Limits}
+use Rattle.search.specs.Limits.{Gathering, Extra, Edges, Manned, ReachesLeast, Limits}
 use Rattle.search.proofs.Unmet.{assignment_of, Unmet}
 
 -- ---- the classes of a scope
@@ -140,11 +140,8 @@ module _ {all n free mask c free' mask' : ℕ} (w : Taking all n free mask) (c-b
         untaken = λ v h. added_other more v (removed_differs gone v h) ∙ w.untaken v (removed_was gone v h);
       }
 
-pub taken : {all n free mask : ℕ} (spare : ℕ) → n ≤ spare → spare ≤ n → Taking all n free mask → Extras all spare true mask
-taken {all} {n} {free} {mask} spare l h w = let e : n ≡ spare = omega arith in record { extra = λ _. subst (λ (x : ℕ). Extra all x mask) e w.extra }
-
-pub too_few : (all spare mask : ℕ) → Extras all spare false mask
-too_few all spare mask = record { extra = λ t. true-false refl (sym t) }
+pub taken : {all n free mask : ℕ} (spare : ℕ) → n ≤ spare → spare ≤ n → Taking all n free mask → Extra all spare mask
+taken {all} {n} {free} {mask} spare l h w = let e : n ≡ spare = omega arith in subst (λ (x : ℕ). Extra all x mask) e w.extra
 
 -- ---- the edges
 
@@ -294,14 +291,14 @@ module _ {steps : ℕ} {reach : List ℕ} {q limit scope all mask : ℕ} {edges 
   assignment small = assignment_of steps scope edges f small suited ordered
 
 module _ (steps : ℕ) (few : steps ≤ 12) (reach : List ℕ) (r : ℕ) (small : scope_in r < 2 ^ steps) where
-  pub reaching : {all : ℕ} (mask : ℕ) {edges : List ℕ} {found : Bool} {at : ℕ → ℕ} (enough : Bool) → Gathering steps reach (level_in r - 1) (scope_in r) all
-      → Extras all (ones (scope_in r) - least_in r) enough mask → not enough ≡ false → Edges steps reach (level_in r - 1) mask edges
+  pub reaching : {all : ℕ} (mask : ℕ) {edges : List ℕ} {found : Bool} {at : ℕ → ℕ} → Gathering steps reach (level_in r - 1) (scope_in r) all
+      → Extra all (ones (scope_in r) - least_in r) mask → Edges steps reach (level_in r - 1) mask edges
       → Covers (in_mask (scope_in r)) (suits edges) found at → ReachesLeast steps reach r found
-  reaching {all} mask {edges} {found} {at} enough g x t w o =
+  reaching {all} mask {edges} {found} {at} g x w o =
       record {
         short = λ e c manned l.
             let ex : Extra all (bits_set steps (scope_in r) - least_in r) mask
-            = subst (λ (n : ℕ). Extra all (n - least_in r) mask) (ones_bits steps (scope_in r) small) (x.extra (not-false enough t))
+            = subst (λ (n : ℕ). Extra all (n - least_in r) mask) (ones_bits steps (scope_in r) small) x
             in
             o.complete e (spreading (has_bit (scope_in r)) c ex.member) (assignment g ex w c manned l small);
       }

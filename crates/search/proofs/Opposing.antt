@@ -1,13 +1,13 @@
 -- Two rules that exclude each other: there is no valid plan. Assumes nothing.
-use mathlib.Core.Bool.{false, not, ◌&&◌}
+use mathlib.Core.Bool.{not, ◌&&◌}
 use mathlib.Core.List.{List}
-use mathlib.Core.Path.{◌≡◌, refl, ap}
+use Rattle.std.specs.Prelude.{None}
+use mathlib.Core.Path.{◌≡◌, ap}
 use Prim.Native.Nat.{ℕ, ◌+◌, ◌≤◌}
 use native.Mathlib.Omega.{arith}
-use lib.ListN.{length, get_or}
+use lib.ListN.{get_or}
 use Rattle.bits.specs.Below.{count}
 use Rattle.bits.specs.Word.{has_bit}
-use Rattle.bits.proofs.Below.{true-false}
 use Rattle.bits.proofs.Counting.{and_of}
 use Rattle.workflow.specs.Problem.{Job, May, Satisfiable, distinct}
 use Rattle.workflow.proofs.Occurs.{distinct_scope_split}
@@ -39,6 +39,5 @@ module _ (size : Size) (crowd rule : List ℕ) (w : Opposed size.steps size.rule
       = ap (λ (q : ℕ). distinct size.steps (has_bit above) (λ s. class_in crowd q (π s))) w.same in
       omega (arith, (v.eligible w.upper w.upper_below).most, (v.eligible w.lower w.lower_below).least, w.fewer)
 
-  pub existence_opposed : (may : May) (plan : List ℕ) → length plan ≡ 12 → Existence job may plan plan false
-  existence_opposed may plan l =
-      record { sized = l; won = λ h. true-false h refl; lost = λ h. none_opposed may; kept = λ h. refl }
+  pub existence_opposed : (may : May) → Existence job may None
+  existence_opposed may = none_opposed may

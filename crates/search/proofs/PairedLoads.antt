@@ -2,6 +2,7 @@
 -- classes of the finer level inside it hold together. Assumes nothing.
 use mathlib.Core.Bool.{Bool, true, false, not, ◌&&◌}
 use mathlib.Core.List.{List}
+use Rattle.std.specs.Prelude.{None}
 use mathlib.Core.Path.{◌≡◌, refl, sym, subst, ◌∙◌}
 use Prim.Native.Nat.{ℕ, zero, suc, ◌+◌, ◌*◌, ◌-◌, ◌/◌, ◌%◌, ◌^◌, ◌≤◌, ◌<◌}
 use native.Mathlib.Omega.{arith}
@@ -9,7 +10,7 @@ use native.Mathlib.Nat.{not-suc-le-zero, le_trans, mul-le-mul_right, pow-suc, mo
 use lib.Bits.{bit_and}
 use lib.Count.{ones}
 use lib.Dec.{eqb, ltb, lit<}
-use lib.ListN.{length, get_or, set, replicate, length-set, length-replicate}
+use lib.ListN.{get_or, set, replicate, length-set, length-replicate}
 use lib.Seq.{get_or-set_same, get_or-set_other}
 use borrow.Author.Tests.{eqb-true, eqb-false, ltb-true, not-true}
 use Rattle.bits.specs.Word.{has_bit}
@@ -259,12 +260,6 @@ module _ {size : Size} {class : ℕ → ℕ → ℕ} {rule : List ℕ} (ruled : 
       (λ s l h. (π s, ok.within s l, number_at (level_in r) (π s) a.from a.to (ok.within s l), number_at (level_in t) (π s) b.from b.to (ok.within s l)))
       (le_trans over (ok.eligible u.which u.below).load) (le_trans under (ok.eligible w.which w.below).load)
 
-  pub existence_overloaded : (plan : List ℕ) → length plan ≡ 12 → (b : Bool) → Pairs size.steps size.people size.rules table rule reach b → not b ≡ true
-      → Existence (job_with size class rule) (may_in may) plan plan false
-  existence_overloaded plan e b w f =
-      record {
-        sized = e;
-        won = λ t. true-false refl (sym t);
-        lost = λ t x. none_overloaded (w.overloaded (not-true b f)) x.0 x.1;
-        kept = λ t. refl;
-      }
+  pub existence_overloaded : (b : Bool) → Pairs size.steps size.people size.rules table rule reach b → not b ≡ true
+      → Existence (job_with size class rule) (may_in may) None
+  existence_overloaded b w f = λ x. none_overloaded (w.overloaded (not-true b f)) x.0 x.1

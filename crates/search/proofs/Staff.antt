@@ -1,33 +1,34 @@
--- The people and steps that masks hold: the first person of a step, the steps that rules name. Assumes nothing.
+-- The people and steps that masks hold: the people of a step, the steps that rules name. Assumes nothing.
 use mathlib.Core.Bool.{true, false}
 use mathlib.Core.List.{List}
 use mathlib.Core.Path.{◌≡◌, sym, subst, ◌∙◌}
 use Prim.Native.Nat.{ℕ, ◌+◌, ◌≤◌, ◌<◌}
 use native.Mathlib.Nat.{not-suc-le-zero}
 use native.Mathlib.Omega.{arith}
+use lib.Bits.{bit_and}
 use lib.Dec.{eqb, ltb}
 use lib.ListN.{get_or, set, length-set}
 use lib.Seq.{get_or-set_same, get_or-set_other}
-use borrow.Author.Tests.{eqb-true, eqb-false, ltb-true, ltb-false}
+use borrow.Author.Tests.{eqb-true, eqb-false, ltb-true, ltb-false, lt-ltb}
 use Rattle.bits.specs.Word.{has_bit}
-use Rattle.bits.specs.Set.{Added}
+use Rattle.bits.specs.Set.{Added, Lowest, Mask}
+use Rattle.bits.proofs.Masks.{some_bit, mask_has, mask_in}
 use Rattle.bits.proofs.Below.{by_cases, true-false}
-use Rattle.bits.proofs.SetLaws.{empty_lacks, zero_empty, added_has, added_other}
+use Rattle.bits.proofs.SetLaws.{and-bit_left, and-bit_right, and_apart, empty_lacks, added_has, added_other}
 use Rattle.pattern.specs.Tables.{plan_in}
-use Rattle.search.specs.Existence.{Named, Foremost, AllStaffed, GivesFirst}
+use Rattle.search.specs.Existence.{Named, GivesFirst}
 
-pub foremost_empty : (mask : ℕ) → mask ≡ 0 → Foremost mask 64
-foremost_empty mask e = record { within = omega arith; has = λ l. absurd (omega arith); before = λ p l. zero_empty mask e p }
+pub lowest_least : {mask r : ℕ} → Lowest mask r → (p : ℕ) → has_bit mask p ≡ true → r ≤ p
+lowest_least {mask} {r} w p h = by_cases (ltb p r) (λ x. true-false h (w.before p (ltb-true p r x))) (λ x. ltb-false p r x)
 
--- somebody is permitted exactly where the first person is one of the job
-pub foremost_person : {mask r : ℕ} → Foremost mask r → (people : ℕ) → people ≤ 64 → r < people → (p : ℕ) × (p < people) × (has_bit mask p ≡ true)
-foremost_person {mask} {r} w people few l = (r, l, w.has (omega arith))
+module _ {people all : ℕ} (everybody : Mask (λ i. ltb i people) all) (m : ℕ) where
+  pub somebody : (bit_and m all ≡ 0 → ⊥) → (p : ℕ) × (p < people) × (has_bit m p ≡ true)
+  somebody n =
+      let b = some_bit (bit_and m all) n in
+      (b.0, ltb-true b.0 people (mask_in everybody b.0 (and-bit_right m all b.0 b.1)), and-bit_left m all b.0 b.1)
 
-pub foremost_least : {mask r : ℕ} → Foremost mask r → (p : ℕ) → has_bit mask p ≡ true → r ≤ p
-foremost_least {mask} {r} w p h = by_cases (ltb p r) (λ x. true-false h (w.before p (ltb-true p r x))) (λ x. ltb-false p r x)
-
-pub foremost_nobody : (steps people s r : ℕ) (may : List ℕ) → Foremost (get_or may s 0) r → people ≤ r → s < steps → AllStaffed steps people may → ⊥
-foremost_nobody steps people s r may w l below all = let x = all s below in omega (arith, x.1, foremost_least w x.0 x.2)
+  pub nobody : bit_and m all ≡ 0 → (p : ℕ) → p < people → has_bit m p ≡ true → ⊥
+  nobody e p l h = true-false (mask_has everybody p (lt-ltb p people l)) (and_apart m all p e h)
 
 -- the steps that rules name, one after the other
 pub named_none : (of : List ℕ) → Named 0 of 0
@@ -57,15 +58,27 @@ module _ {n : ℕ} {of : List ℕ} {r : ℕ} (w : Named n of r) where
             (λ t. let d = eqb-false s n t in w.covers s (omega arith) (sym (added_other more s d) ∙ h));
       }
 
-pub spread_more : (s p : ℕ) (may plan : List ℕ) → s < 12 → Foremost (get_or may s 0) p → GivesFirst s may plan → GivesFirst (s + 1) may (set plan s p)
-spread_more s p may plan l f w =
-    record {
-      sized = length-set plan s p ∙ w.sized;
-      each = λ t m.
-          by_cases (eqb t s)
-          (λ x. subst (λ (v : ℕ). Foremost (get_or may v 0) (plan_in (set plan s p) v)) (sym (eqb-true t s x))
-          (subst (Foremost (get_or may s 0)) (sym (get_or-set_same plan s p 0 (omega (arith, w.sized)))) f))
-          (λ x.
-          let n : t ≡ s → ⊥ = eqb-false t s x in
-          subst (Foremost (get_or may t 0)) (sym (get_or-set_other plan s t p 0 n)) (w.each t (omega arith)));
-    }
+module _ (s : ℕ) (may plan : List ℕ) (w : GivesFirst s may plan) where
+  pub spread_more : (p : ℕ) → s < 12 → Lowest (get_or may s 0) p → GivesFirst (s + 1) may (set plan s p)
+  spread_more p l f =
+      record {
+        sized = length-set plan s p ∙ w.sized;
+        each = λ t m.
+            by_cases (eqb t s)
+            (λ x n. subst (λ (v : ℕ). Lowest (get_or may v 0) (plan_in (set plan s p) v)) (sym (eqb-true t s x))
+            (subst (Lowest (get_or may s 0)) (sym (get_or-set_same plan s p 0 (omega (arith, w.sized)))) f))
+            (λ x n.
+            let d : t ≡ s → ⊥ = eqb-false t s x in
+            subst (Lowest (get_or may t 0)) (sym (get_or-set_other plan s t p 0 d)) (w.each t (omega arith) n));
+      }
+
+  -- nobody may do the step
+  pub spread_past : get_or may s 0 ≡ 0 → GivesFirst (s + 1) may plan
+  spread_past e =
+      record {
+        sized = w.sized;
+        each = λ t m n.
+            by_cases (eqb t s)
+            (λ x. absurd (n (subst (λ (v : ℕ). get_or may v 0 ≡ 0) (sym (eqb-true t s x)) e)))
+            (λ x. let d : t ≡ s → ⊥ = eqb-false t s x in w.each t (omega arith) n);
+      }

@@ -1,15 +1,16 @@
 -- A rule that no classes with somebody for its steps meet: there is no valid plan. And what makes an assignment of classes to the steps of a
 -- scope. Assumes nothing.
-use mathlib.Core.Bool.{true, false}
+use mathlib.Core.Bool.{true}
 use mathlib.Core.List.{List}
-use mathlib.Core.Path.{◌≡◌, refl, sym, subst}
+use Rattle.std.specs.Prelude.{None}
+use mathlib.Core.Path.{◌≡◌, sym, subst}
 use Prim.Native.Nat.{ℕ, suc, ◌+◌, ◌*◌, ◌-◌, ◌^◌, ◌≤◌, ◌<◌}
 use native.Mathlib.Omega.{arith}
 use lib.Dec.{ltb}
-use lib.ListN.{length, get_or}
+use lib.ListN.{get_or}
 use borrow.Author.Tests.{ltb-true, ltb-false}
 use Rattle.bits.specs.Word.{has_bit}
-use Rattle.bits.proofs.Below.{by_cases, true-false, and_right}
+use Rattle.bits.proofs.Below.{by_cases, and_right}
 use Rattle.bits.proofs.SetLaws.{has_below}
 use Rattle.workflow.specs.Problem.{InBounds, Valid, distinct, largest_load}
 use Rattle.matching.specs.Assignment.{Assignment, in_mask, suits}
@@ -67,16 +68,9 @@ module _ {size : Size} {class : ℕ → ℕ → ℕ} {rule : List ℕ} (ruled : 
       )
 
   -- so there is none where they do not meet a rule
-  pub existence_short : (plan : List ℕ) → length plan ≡ 12 → Unmet size.steps size.rules rule reach
-      → Existence (job_with size class rule) (may_in may) plan plan false
-  existence_short plan e u =
+  pub existence_short : Unmet size.steps size.rules rule reach → Existence (job_with size class rule) (may_in may) None
+  existence_short u x =
       let i = u.which in
       let ok = ruled.rule_ok i u.below in
-      record {
-        sized = e;
-        won = λ t. true-false refl (sym t);
-        lost = λ t x.
-            u.none (λ s. class (level_in (get_or rule i 0)) (x.0 s))
-            (manned x.0 x.1 (level_in (get_or rule i 0)) (scope_in (get_or rule i 0)) ok.from ok.to) (x.1.eligible i u.below);
-        kept = λ t. refl;
-      }
+      u.none (λ s. class (level_in (get_or rule i 0)) (x.0 s))
+      (manned x.0 x.1 (level_in (get_or rule i 0)) (scope_in (get_or rule i 0)) ok.from ok.to) (x.1.eligible i u.below)

@@ -1,5 +1,5 @@
 -- A lower limit and the classes that have somebody for the steps of its scope. Assumes nothing.
-use Rattle.std.specs.Prelude.{Bool, true, false, List, ◌≡◌, ℕ, ◌+◌, ◌*◌, ◌-◌, ◌≤◌, ◌<◌, length, get_or}
+use Rattle.std.specs.Prelude.{Option, None, Some, Bool, true, false, List, ◌≡◌, ℕ, ◌+◌, ◌*◌, ◌-◌, ◌≤◌, ◌<◌, length, get_or}
 use Rattle.bits.specs.Word.{has_bit}
 use Rattle.workflow.specs.Problem.{distinct}
 use Rattle.pattern.specs.Rule.{level_in, least_in, scope_in}
@@ -17,8 +17,9 @@ pub record Extra (all n mask : ℕ) : Type 0 where
   pub apart : (k l : ℕ) → k < n → l < n → member k ≡ member l → k ≡ l
 
 -- the same, where there are enough
-pub record Extras (all n : ℕ) (enough : Bool) (mask : ℕ) : Type 0 where
-  pub extra : enough ≡ true → Extra all n mask
+abbrev pub Extras : ℕ → ℕ → Option ℕ → Type 0
+Extras all n None = Unit {0}
+Extras all n (Some mask) = Extra all n mask
 
 -- the steps below n have the classes with somebody for them, and the extra ones
 pub record Edges (n : ℕ) (reach : List ℕ) (q extra : ℕ) (edges : List ℕ) : Type 0 where

@@ -10,7 +10,10 @@ use Rattle.pattern.specs.Place.{with_step, grown}
 use Rattle.pattern.specs.Eligible.{Possible}
 use Rattle.pattern.specs.Realize.{Realized}
 use Rattle.pattern.specs.Search.{Exists}
-use Rattle.pattern.specs.Tables.{label_in}
+use Rattle.pattern.specs.Tables.{may_in, label_in, nested_job}
+use Rattle.levels.specs.Tabled.{SearchTables}
+use Rattle.realize.specs.Parts.{Offers}
+use Rattle.search.specs.declared.setting.Setting.{Setting}
 use Rattle.search.specs.Growth.{Joins}
 
 -- the labels are a pattern of the placed steps
@@ -98,3 +101,27 @@ pub record WaysTried (j : Job) (may : May) (placed s w : ℕ) (label label' : Li
   pub sized : length label' ≡ label_entries
   pub kept : LabelsKept j placed label label'
   pub failed : (k : ℕ) → k < w → Joins placed label (partner k) (depth k) → ByWay j may placed label s k → ⊥
+
+-- ---- the same of a setting
+
+-- its job: it tells two classes apart by what lies inside them
+abbrev pub job_of : Setting → Job
+job_of w = nested_job w.size w.nest.now w.rule.now
+
+-- its arrays are those of a job
+pub record Prepared (w : Setting) : Type 0 where
+  pub tables : SearchTables w.size w.nest.now w.rule.now w.of.now
+  pub masks : length w.may.now ≡ 12
+  pub offers : Offers (job_of w) w.may.now w.reach.now
+
+abbrev pub PassingIn : Setting → ℕ → List ℕ → Bool → Type 0
+PassingIn w = Passing (job_of w) (may_in w.may.now)
+
+abbrev pub ReachedIn : Setting → ℕ → ℕ → List ℕ → Type 0
+ReachedIn w = Reached (job_of w) (may_in w.may.now)
+
+abbrev pub FoundIn : Setting → ℕ → ℕ → List ℕ → List ℕ → Bool → Type 0
+FoundIn w = FindOutcome (job_of w) (may_in w.may.now)
+
+abbrev pub GrewIn : Setting → ℕ → ℕ → ℕ → ℕ → List ℕ → List ℕ → Bool → Type 0
+GrewIn w = Grew (job_of w) (may_in w.may.now)

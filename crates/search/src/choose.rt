@@ -3,27 +3,28 @@
 ghost use Rattle.std.specs.Prelude.{true, ◌≡◌, ◌<◌, length};
 ghost use Rattle.bits.specs.Word.{has_bit};
 ghost use Rattle.bits.specs.Sizes.{label_entries};
-ghost use Rattle.pattern.specs.Given.{Ruled};
+ghost use Rattle.search.specs.State.{Prepared};
 
+use super::find::Front;
+use super::setting::Setting;
 use super::ways::keys;
-use bits::sizes::{Labels, Reach, Rules, Weights};
-use bits::small::least_key;
-use pattern::Size;
+use bits::least::least_key;
+use bits::sizes::{Labels, Weights};
 
 // The open step to place next, with the labels of the placed ones.
-pub fn next_step(
-    size: Size,
-    rule: &Rules,
-    reach: &Reach,
-    placed: u16,
-    rest: u16,
-    label: &Labels,
-    weight: &Weights,
-) -> usize
-    requires { Ruled size rule.now × (placed < 4096) × (rest < 4096) × (rest ≡ 0 → ⊥)
-        × (length reach.now ≡ label_entries) × (length label.now ≡ label_entries) × (length weight.now ≡ 12) }
-    ensures { has_bit rest result ≡ true }
+pub fn next_step(setting: &Setting, front: Front, label: &Labels, weight: &Weights) -> usize
+    requires { Prepared setting.now × (front.placed < 4096) × (front.rest < 4096) × (front.rest ≡ 0 → ⊥)
+        × (length label.now ≡ label_entries) × (length weight.now ≡ 12) }
+    ensures { has_bit front.rest result ≡ true }
 {
-    let order = keys(size, rule, reach, placed, rest, label, weight);
-    least_key(&order, rest)
+    let order = keys(
+        setting.size,
+        setting.rule,
+        setting.reach,
+        front.placed,
+        front.rest,
+        label,
+        weight,
+    );
+    least_key(&order, front.rest)
 }

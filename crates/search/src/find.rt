@@ -1,16 +1,13 @@
 // The search: each way to place an open step, and the search from there.
 ghost use Rattle.std.specs.Prelude.{◌≡◌, length};
-ghost use Rattle.levels.specs.Tabled.{SearchTables};
-ghost use Rattle.pattern.specs.Tables.{may_in, nested_job};
-ghost use Rattle.realize.specs.Parts.{Offers};
-ghost use Rattle.search.specs.State.{Reached, FindOutcome};
+ghost use Rattle.search.specs.State.{Prepared, ReachedIn, FoundIn};
 
 use super::choose::next_step;
 use super::grow::{Placing, grow};
+use super::setting::Setting;
 use super::weights::blame;
-use bits::sizes::{Domains, Labels, MOST_STEPS, Naming, Nest, Reach, Rules, Weights};
-use bits::small::{with, without};
-use pattern::Size;
+use bits::set::Set;
+use bits::sizes::{Labels, MOST_STEPS, Weights};
 
 // The steps placed, and those that a rule names and that are still to be placed.
 #[derive(Clone, Copy)]
@@ -21,33 +18,20 @@ pub struct Front {
 
 // Places the steps that are left and says whether that can be done. If not, no valid plan has the pattern of
 // the placed steps, whose labels are as they were.
-pub fn find(
-    size: Size,
-    nest: &Nest,
-    rule: &Rules,
-    of: &Naming,
-    may: &Domains,
-    reach: &Reach,
-    front: Front,
-    label: &mut Labels,
-    weight: &mut Weights,
-) -> bool
-    requires { SearchTables size nest.now rule.now of.now × (length may.now ≡ 12) × (length weight.old ≡ 12)
-        × Reached (nested_job size nest.now rule.now) (may_in may.now) front.placed front.rest label.old
-        × Offers (nested_job size nest.now rule.now) may.now reach.now }
-    ensures { FindOutcome (nested_job size nest.now rule.now) (may_in may.now) front.placed front.rest label.old label.new result
-        × (length weight.new ≡ 12) }
+pub fn find(setting: &Setting, front: Front, label: &mut Labels, weight: &mut Weights) -> bool
+    requires { Prepared setting.now × (length weight.old ≡ 12) × ReachedIn setting.now front.placed front.rest label.old }
+    ensures { FoundIn setting.now front.placed front.rest label.old label.new result × (length weight.new ≡ 12) }
 {
     if front.rest == 0 {
         return true;
     }
-    let s = next_step(size, rule, reach, front.placed, front.rest, label, weight);
+    let s = next_step(setting, front, label, weight);
     let next = Front {
-        placed: with(front.placed, s),
-        rest: without(front.rest, s),
+        placed: front.placed.with(s),
+        rest: front.rest.without(s),
     };
-    let among = of[s];
-    let ways = size.levels * MOST_STEPS + 1;
+    let among = setting.of[s];
+    let ways = setting.size.levels * MOST_STEPS + 1;
     for w in 0..ways {
         let placing = Placing {
             placed: front.placed,
@@ -55,10 +39,10 @@ pub fn find(
             step: s,
             way: w,
         };
-        if !grow(size, nest, rule, may, reach, among, placing, label) {
+        if !grow(setting, among, placing, label) {
             continue;
         }
-        if find(size, nest, rule, of, may, reach, next, label, weight) {
+        if find(setting, next, label, weight) {
             return true;
         }
     }

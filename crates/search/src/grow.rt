@@ -1,15 +1,12 @@
 // A node of the search: a step placed in one of its ways, and the tests on the pattern.
-ghost use Rattle.std.specs.Prelude.{◌≡◌, length};
-ghost use Rattle.pattern.specs.Given.{Nest};
-ghost use Rattle.pattern.specs.Tables.{may_in, nested_job};
-ghost use Rattle.realize.specs.Parts.{Offers};
-ghost use Rattle.search.specs.State.{Patterned, Passing, Touched, OthersPossible, Growable, Grew};
+ghost use Rattle.search.specs.State.{Prepared, job_of, Patterned, PassingIn, Touched, OthersPossible, Growable, GrewIn};
 
 use super::meet::meets;
 use super::place::{joins, place};
-use bits::sizes::{Domains, Labels, MOST_STEPS, Nest, Reach, Rules};
+use super::setting::Setting;
+use bits::sizes::{Labels, MOST_STEPS};
 use eligible::eligible;
-use pattern::Size;
+use realize::parts::Layout;
 use realize::realizable;
 
 // The greatest number of a step.
@@ -26,44 +23,29 @@ pub struct Placing {
 
 // Whether each rule can still be met, which is so for those outside `among`, and the placed steps
 // have people.
-fn passes(
-    size: Size,
-    nest: &Nest,
-    rule: &Rules,
-    may: &Domains,
-    reach: &Reach,
-    among: u64,
-    placed: u16,
-    label: &Labels,
-) -> bool
-    requires { Nest size nest.now rule.now × (length may.now ≡ 12) × Patterned (nested_job size nest.now rule.now) placed label.now
-        × Offers (nested_job size nest.now rule.now) may.now reach.now
-        × OthersPossible (nested_job size nest.now rule.now) among placed label.now }
-    ensures { Passing (nested_job size nest.now rule.now) (may_in may.now) placed label.now result }
+fn passes(setting: &Setting, among: u64, placed: u16, label: &Labels) -> bool
+    requires { Prepared setting.now × Patterned (job_of setting.now) placed label.now × OthersPossible (job_of setting.now) among placed label.now }
+    ensures { PassingIn setting.now placed label.now result }
 {
-    if !eligible(among, rule, placed, label) {
+    if !eligible(among, setting.rule, placed, label) {
         return false;
     }
-    realizable(size, may, label, nest, reach, placed)
+    let layout = Layout {
+        may: setting.may,
+        label: label,
+        nest: setting.nest,
+        reach: setting.reach,
+    };
+    realizable(setting.size, &layout, placed)
 }
 
 // Places a step in a way, where there is such a group, and tests the pattern. `among` has the rules that
 // name the step: the others stay as they were.
-pub fn grow(
-    size: Size,
-    nest: &Nest,
-    rule: &Rules,
-    may: &Domains,
-    reach: &Reach,
-    among: u64,
-    placing: Placing,
-    label: &mut Labels,
-) -> bool
-    requires { Nest size nest.now rule.now × (length may.now ≡ 12)
-        × Growable (nested_job size nest.now rule.now) placing.placed placing.next placing.step placing.way label.old
-        × Offers (nested_job size nest.now rule.now) may.now reach.now
-        × Touched (nested_job size nest.now rule.now) among placing.step }
-    ensures { Grew (nested_job size nest.now rule.now) (may_in may.now) placing.placed placing.next placing.step placing.way label.old label.new result }
+pub fn grow(setting: &Setting, among: u64, placing: Placing, label: &mut Labels) -> bool
+    requires { Prepared setting.now
+        × Growable (job_of setting.now) placing.placed placing.next placing.step placing.way label.old
+        × Touched (job_of setting.now) among placing.step }
+    ensures { GrewIn setting.now placing.placed placing.next placing.step placing.way label.old label.new result }
 {
     let s = placing.step;
     let t = placing.way % MOST_STEPS;
@@ -71,9 +53,9 @@ pub fn grow(
     if !joins(placing.placed, label, t, d) {
         return false;
     }
-    if !meets(reach, d, s, t) {
+    if !meets(setting.reach, d, s, t) {
         return false;
     }
-    place(size.levels, label, s, t, d);
-    passes(size, nest, rule, may, reach, among, placing.next, label)
+    place(setting.size.levels, label, s, t, d);
+    passes(setting, among, placing.next, label)
 }

@@ -14,5 +14,6 @@ mod pairs;
 mod patterns;
 mod place;
 mod refute;
+mod setting;
 mod ways;
 pub mod weights;

@@ -8,17 +8,10 @@ ghost use Rattle.pattern.specs.Given.{Ruled};
 ghost use Rattle.pattern.specs.Rule.{level_in, least_in, scope_in};
 ghost use Rattle.search.specs.Limits.{Gathering, Extras, Edges, ReachesLeast, Limits};
 
+use bits::set::{ALL, Set, members};
 use bits::sizes::{MOST_STEPS, Reach, Rules};
-use bits::{set, small};
 use matching::assign;
 use pattern::{Size, rule};
-
-// Classes that are to spare: whether there are enough, and then a mask of them.
-#[derive(Drop)]
-pub struct Spares {
-    pub enough: bool,
-    pub mask: u64,
-}
 
 // The classes of level `q` + 1 with somebody for a step of the scope.
 pub fn classes_of(steps: usize, reach: &Reach, q: usize, scope: u16) -> u64
@@ -27,7 +20,7 @@ pub fn classes_of(steps: usize, reach: &Reach, q: usize, scope: u16) -> u64
 {
     let mut all: u64 = 0;
     for s in 0..steps {
-        if !small::has(scope, s) {
+        if !scope.has(s) {
             continue;
         }
         all = all | reach[q * MOST_STEPS + s];
@@ -36,27 +29,16 @@ pub fn classes_of(steps: usize, reach: &Reach, q: usize, scope: u16) -> u64
 }
 
 // As many classes as asked for that are not in `all`, where there are so many.
-fn extra_classes(all: u64, spare: usize) -> Spares
-    ensures { Extras all spare result.enough result.mask }
+fn extra_classes(all: u64, spare: usize) -> Option<u64>
+    ensures { Extras all spare result }
 {
-    let mut free = (all | set::ALL) ^ all;
+    let mut free = members((all | ALL) ^ all);
     let mut mask: u64 = 0;
     for i in 0..spare {
-        if free == 0 {
-            return Spares {
-                enough: false,
-                mask: 0,
-            };
-        }
-        let next = set::take(free);
-        free = next.rest;
-        let c = next.first;
-        mask = set::with(mask, c);
+        let c = free.next()?;
+        mask = mask.with(c);
     }
-    Spares {
-        enough: true,
-        mask: mask,
-    }
+    Some(mask)
 }
 
 // The classes of level `q` + 1 with somebody for each step, and the extra ones.
@@ -81,12 +63,11 @@ fn reaches_least(steps: usize, reach: &Reach, r: u32) -> bool
     let q = rule::level(r) - 1;
     let all = classes_of(steps, reach, q, scope);
     let extra = extra_classes(all, u16::count_ones(scope) as usize - rule::least(r));
-    if !extra.enough {
+    let Some(mask) = extra else {
         return true;
-    }
-    let edges = edges_of(steps, reach, q, extra.mask);
-    let cover = assign(&edges, scope);
-    cover.found
+    };
+    let edges = edges_of(steps, reach, q, mask);
+    assign(&edges, scope).is_some()
 }
 
 // Whether each lower limit can be reached. Those of one class and of two are left to the search.

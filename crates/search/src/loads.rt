@@ -7,7 +7,7 @@ ghost use Rattle.pattern.specs.Rule.{level_in, scope_in};
 ghost use Rattle.search.specs.Loads.{Repeated, Places, KeepsLoadOf, Loads};
 
 use super::limits::classes_of;
-use bits::set;
+use bits::set::Set;
 use bits::sizes::{MOST_STEPS, Reach, Rules};
 use matching::assign;
 use pattern::{Size, rule};
@@ -59,13 +59,12 @@ fn keeps_load(steps: usize, reach: &Reach, r: u32) -> bool
     let scope = rule::scope(r);
     let q = rule::level(r) - 1;
     let all = classes_of(steps, reach, q, scope);
-    let low = set::below(width);
+    let low = u64::below(width);
     if all | low != low {
         return true;
     }
     let edges = places_of(steps, reach, q, width, load);
-    let cover = assign(&edges, scope);
-    cover.found
+    assign(&edges, scope).is_some()
 }
 
 // Whether each greatest load can be kept to.

@@ -8,8 +8,8 @@ ghost use Rattle.search.specs.PairedLoads.{Inside, Room, Kept, KeepsBothOf, Part
 
 use super::limits::classes_of;
 use super::loads::{PLACES, places_of};
+use bits::set::Set;
 use bits::sizes::{Classes, MOST_PEOPLE, MOST_STEPS, Reach, Rules};
-use bits::{set, small};
 use matching::assign;
 use pattern::{Size, rule};
 
@@ -22,7 +22,7 @@ fn inside(people: usize, class: &Classes, coarse: usize, fine: usize) -> [u64; M
     for p in 0..people {
         let v = (class[coarse * MOST_PEOPLE + p] % 64) as usize;
         let w = (class[fine * MOST_PEOPLE + p] % 64) as usize;
-        within[v] = set::with(within[v], w);
+        within[v] = within[v].with(w);
     }
     within
 }
@@ -34,10 +34,10 @@ fn room_of(within: &[u64; MOST_PEOPLE], all: u64, load: usize, width: usize) -> 
 {
     let mut room: u64 = 0;
     for x in 0..PLACES {
-        if set::size(within[x % width] & all) * load <= x / width {
+        if (within[x % width] & all).size() * load <= x / width {
             continue;
         }
-        room = set::with(room, x);
+        room = room.with(x);
     }
     room
 }
@@ -69,7 +69,7 @@ fn keeps_both(size: Size, class: &Classes, reach: &Reach, r: u32, t: u32) -> boo
     let scope = rule::scope(r) & rule::scope(t);
     let q = rule::level(r) - 1;
     let all = classes_of(size.steps, reach, q, scope);
-    let low = set::below(width);
+    let low = u64::below(width);
     if all | low != low {
         return true;
     }
@@ -79,14 +79,13 @@ fn keeps_both(size: Size, class: &Classes, reach: &Reach, r: u32, t: u32) -> boo
     let room = room_of(&within, finer, rule::load(t), width);
     let edges = places_of(size.steps, reach, q, width, load);
     let kept = kept_to(size.steps, &edges, room);
-    let cover = assign(&kept, scope);
-    cover.found
+    assign(&kept, scope).is_some()
 }
 
 // Whether each of two rules limits the load over the steps that both name: else the test of the other one mostly says as much.
 // No promise rests on it.
 fn both_limit(r: u32, t: u32) -> bool {
-    let both = small::size(rule::scope(r) & rule::scope(t));
+    let both = (rule::scope(r) & rule::scope(t)).size();
     (rule::load(r) < both) & (rule::load(t) < both)
 }
 

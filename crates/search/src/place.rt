@@ -4,8 +4,8 @@ ghost use Rattle.bits.specs.Says.{Says};
 ghost use Rattle.bits.specs.Sizes.{most_levels, label_entries};
 ghost use Rattle.search.specs.Growth.{Placeable, Grows, Joins};
 
+use bits::set::Set;
 use bits::sizes::{Labels, MOST_STEPS};
-use bits::small::has;
 
 // Whether step `t` is the label of a group of level `d`; with `d` 0 there is none to join.
 pub fn joins(placed: u16, label: &Labels, t: usize, d: usize) -> bool
@@ -15,7 +15,7 @@ pub fn joins(placed: u16, label: &Labels, t: usize, d: usize) -> bool
     if d == 0 {
         return true;
     }
-    if !has(placed, t) {
+    if !placed.has(t) {
         return false;
     }
     label[(d - 1) * MOST_STEPS + t] == t as u8

@@ -6,27 +6,24 @@ ghost use Rattle.pattern.specs.Tables.{may_in};
 ghost use Rattle.search.specs.Existence.{Refuting};
 
 use super::patterns::by_patterns;
-use bits::sizes::{Domains, MOST_STEPS, Weights};
+use bits::sizes::{Domains, Weights};
 use levels::{Tables, keep};
 use relax::carry;
 
 // Whether the job relaxed to level `q` has no valid plan.
-fn refuted(tables: Tables, may: &Domains, q: usize, weight: &mut Weights) -> bool
-    requires { Ready tables × (length may.now ≡ 12) × (length weight.old ≡ 12) × (1 ≤ q) × (q ≤ tables.size.levels) }
-    ensures { Refuting (tabled_job tables) (may_in may.now) result × (length weight.new ≡ 12) }
+fn refuted(tables: &Tables, may: &Domains, q: usize, weight: &mut Weights) -> bool
+    requires { Ready tables.now × (length may.now ≡ 12) × (length weight.old ≡ 12) × (1 ≤ q) × (q ≤ tables.now.size.levels) }
+    ensures { Refuting (tabled_job tables.now) (may_in may.now) result × (length weight.new ≡ 12) }
 {
-    let class = tables.class;
-    let rule = tables.rule;
-    let carried = carry(tables.size, &class, &rule, q);
-    let relaxed = keep(tables.size, &class, &carried);
-    let mut plan = [0u8; MOST_STEPS];
-    !by_patterns(relaxed, may, weight, &mut plan)
+    let carried = carry(tables.size, &tables.class, &tables.rule, q);
+    let relaxed = keep(tables.size, &tables.class, &carried);
+    by_patterns(&relaxed, may, weight).is_none()
 }
 
 // Whether the job relaxed to one of its levels has no valid plan.
-pub fn refuted_by_levels(tables: Tables, may: &Domains, weight: &mut Weights) -> bool
-    requires { Ready tables × (length may.now ≡ 12) × (length weight.old ≡ 12) }
-    ensures { Refuting (tabled_job tables) (may_in may.now) result × (length weight.new ≡ 12) }
+pub fn refuted_by_levels(tables: &Tables, may: &Domains, weight: &mut Weights) -> bool
+    requires { Ready tables.now × (length may.now ≡ 12) × (length weight.old ≡ 12) }
+    ensures { Refuting (tabled_job tables.now) (may_in may.now) result × (length weight.new ≡ 12) }
 {
     let levels = tables.size.levels;
     // One level is no relaxation.

@@ -6,8 +6,8 @@ ghost use Rattle.bits.specs.Sizes.{most_levels, label_entries};
 ghost use Rattle.pattern.specs.Given.{Ruled};
 ghost use Rattle.pattern.specs.Rule.{level_in, scope_in};
 
+use bits::set::{Set, members};
 use bits::sizes::{LABEL_ENTRIES, Labels, MOST_LEVELS, MOST_STEPS, Reach, Rules, Weights};
-use bits::small;
 use eligible::groups::labels_of;
 use pattern::{Size, rule};
 use realize::parts::groups_of;
@@ -29,11 +29,7 @@ fn leave(steps: u16, top: usize, labels: u16, free: &mut [u16; LABEL_ENTRIES])
     requires { (steps < 4096) × (top + 12 ≤ label_entries) × (length free.old ≡ label_entries) }
     ensures { length free.new ≡ label_entries }
 {
-    let mut left = steps;
-    while left != 0 {
-        let next = small::take(left);
-        left = next.rest;
-        let s = next.first;
+    for s in members(steps) {
         free[top + s] = free[top + s] & labels;
     }
 }
@@ -58,7 +54,7 @@ fn by_rule(r: u32, placed: u16, label: &Labels, free: &mut [u16; LABEL_ENTRIES])
         leave(left, top, labels, free);
         return;
     }
-    if groups + small::size(left) > rule::least(r) {
+    if groups + left.size() > rule::least(r) {
         return;
     }
     leave(left, top, labels ^ ANY, free);
@@ -91,10 +87,7 @@ fn joinable(
         return false;
     }
     for x in 0..q + 1 {
-        if !small::has(
-            free[x * MOST_STEPS + s],
-            (label[x * MOST_STEPS + t] % 16) as usize,
-        ) {
+        if !free[x * MOST_STEPS + s].has((label[x * MOST_STEPS + t] % 16) as usize) {
             return false;
         }
     }
@@ -113,15 +106,11 @@ fn joined(
     requires { (q < most_levels) × (s < 12) × (groups < 4096) × (length reach.now ≡ label_entries) × (length free.now ≡ label_entries) × (length label.now ≡ label_entries) }
 {
     let mut found: u16 = 0;
-    let mut left = groups;
-    while left != 0 {
-        let next = small::take(left);
-        left = next.rest;
-        let t = next.first;
+    for t in members(groups) {
         if !joinable(reach, free, label, q, s, t) {
             continue;
         }
-        found = small::with(found, t);
+        found = found.with(t);
     }
     found
 }
@@ -141,8 +130,8 @@ fn ways_of(
     let mut ways: u32 = 0;
     for k in 0..levels {
         let q = levels - 1 - k;
-        ways += small::size(joined(reach, free, label, q, s, heads[q] % 4096)) as u32;
-        if !small::has(free[q * MOST_STEPS + s], s) {
+        ways += joined(reach, free, label, q, s, heads[q] % 4096).size() as u32;
+        if !free[q * MOST_STEPS + s].has(s) {
             return ways;
         }
     }
@@ -181,11 +170,7 @@ fn keyed(
     ensures { length result ≡ 12 }
 {
     let mut keys = [0u64; MOST_STEPS];
-    let mut left = rest;
-    while left != 0 {
-        let next = small::take(left);
-        left = next.rest;
-        let s = next.first;
+    for s in members(rest) {
         keys[s] = key(ways_of(levels, reach, free, label, heads, s), weight[s]);
     }
     keys

@@ -1,5 +1,5 @@
 use Prim.Native.Nat.{◌+◌, ◌*◌}
-use Rattle.pattern.specs.Tables.{job_in}
+use Rattle.levels.specs.Tabled.{tabled_job}
 use Rattle.backtrack.proofs.Extending.{Untried}
 use Rattle.backtrack.proofs.+branch_extend.Given as goal
 
@@ -9,8 +9,5 @@ decreases-branch l = 2 * l.choice.rest + 2
 abbrev pub decreases-extend : goal.decreases-extend
 decreases-extend l = 2 * l.rest + 1
 
-abbrev pub invariant-extend-loop-left : goal.invariant-extend-loop-left
-invariant-extend-loop-left l = Untried (job_in l.size l.crowd l.rule) l.s l.dom l.plan l.left
-
-abbrev pub decreases-extend-loop-left : goal.decreases-extend-loop-left
-decreases-extend-loop-left l = l.left
+abbrev pub invariant-extend-loop-person : goal.invariant-extend-loop-person
+invariant-extend-loop-person l = Untried (tabled_job l.tables) l.s l.dom l.person-iterator.left

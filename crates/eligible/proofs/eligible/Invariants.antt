@@ -1,8 +1,5 @@
 use Rattle.eligible.proofs.Tests.{Tested}
 use Rattle.eligible.proofs.eligible.Given as goal
 
-abbrev pub invariant-loop-rest : goal.invariant-loop-rest
-invariant-loop-rest l = Tested l.among l.rest l.rule l.placed l.label
-
-abbrev pub decreases-loop-rest : goal.decreases-loop-rest
-decreases-loop-rest l = l.rest
+abbrev pub invariant-loop-i : goal.invariant-loop-i
+invariant-loop-i l = Tested l.among l.i-iterator.left l.rule l.placed l.label

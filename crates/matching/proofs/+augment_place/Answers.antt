@@ -1,6 +1,8 @@
 -- The proof of the cycle of calls {augment, place}. Assumes nothing.
 use native.Mathlib.Omega.{arith}
 use Rattle.matching.proofs.Turn.{turn_of, turn_free, turn_crowded, turn-first, turn_last, turn_unheld, turn_ready, turn_below, turn_won, turn_lost, turn_less}
+use mathlib.Core.Path.{subst}
+use Rattle.matching.specs.State.{Holder}
 use Rattle.matching.proofs.+augment_place.Goals as goal
 
 pub augment-loop-g-init : goal.augment-loop-g-init
@@ -9,29 +11,29 @@ augment-loop-g-init t c = turn-first c.requires
 pub augment-returns-then-left-eq0 : goal.augment-returns-then-left-eq0
 augment-returns-then-left-eq0 t c = turn_last c.loop-g.invariant c.if-left-eq0.true
 
-pub augment-returns-then-h-ge-MOST_STEPS : goal.augment-returns-then-h-ge-MOST_STEPS
-augment-returns-then-h-ge-MOST_STEPS t c =
-    turn_unheld (turn_of c.loop-g.invariant c.row_known-1.given.fits c.lowest-class.ensures c.without.ensures c.holder-h.ensures) c.if-h-ge-MOST_STEPS.true
+pub augment-returns-in_default : goal.augment-returns-in_default
+augment-returns-in_default t c =
+    turn_unheld (turn_of c.loop-g.invariant (omega arith) c.lowest-class.ensures c.without.ensures) (subst (Holder _ _) c.in_default.is c.holder-held.ensures)
 
 pub augment-place-requires : goal.augment-place-requires
 augment-place-requires t c =
-    let w = turn_of c.loop-g.invariant c.row_known-1.given.fits c.lowest-class.ensures c.without.ensures c.holder-h.ensures in
-    (turn_below w c.decreases, turn_ready w c.if-h-ge-MOST_STEPS.false)
+    let w = turn_of c.loop-g.invariant (omega arith) c.lowest-class.ensures c.without.ensures in
+    (turn_below w c.decreases, turn_ready w (subst (Holder _ _) c.in-Some.is c.holder-held.ensures))
 
 pub augment-returns-then-place : goal.augment-returns-then-place
 augment-returns-then-place t c =
-    turn_won (turn_of c.loop-g.invariant c.row_known-1.given.fits c.lowest-class.ensures c.without.ensures c.holder-h.ensures)
-    c.place.ensures c.if-h-ge-MOST_STEPS.false c.if-place.true
+    turn_won (turn_of c.loop-g.invariant (omega arith) c.lowest-class.ensures c.without.ensures)
+    c.place.ensures (subst (Holder _ _) c.in-Some.is c.holder-held.ensures) c.if-place.true
 
 pub augment-loop-g-smaller : goal.augment-loop-g-smaller
 augment-loop-g-smaller t c =
-    turn_less (turn_of c.loop-g.invariant c.row_known-1.given.fits c.lowest-class.ensures c.without.ensures c.holder-h.ensures)
+    turn_less (turn_of c.loop-g.invariant (omega arith) c.lowest-class.ensures c.without.ensures)
     c.place.ensures c.if-place.false
 
 pub augment-loop-g-preserved : goal.augment-loop-g-preserved
 augment-loop-g-preserved t c =
-    turn_lost (turn_of c.loop-g.invariant c.row_known-1.given.fits c.lowest-class.ensures c.without.ensures c.holder-h.ensures)
-    c.place.ensures c.if-h-ge-MOST_STEPS.false c.if-place.false
+    turn_lost (turn_of c.loop-g.invariant (omega arith) c.lowest-class.ensures c.without.ensures)
+    c.place.ensures (subst (Holder _ _) c.in-Some.is c.holder-held.ensures) c.if-place.false
 
 pub place-returns-then-idle-ne0 : goal.place-returns-then-idle-ne0
 place-returns-then-idle-ne0 t c = turn_free c.requires c.lowest-class.ensures c.without.ensures

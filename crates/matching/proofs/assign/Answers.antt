@@ -1,5 +1,5 @@
 -- `matching::assign` meets its contract: the groups passed have classes, no class is seen when the next one's search
--- begins, and a group that is stuck leaves no assignment at all. The measure is the mask of the groups left. Assumes nothing.
+-- begins, and a group that is stuck leaves no assignment at all. Assumes nothing.
 use mathlib.Core.Path.{refl}
 use Prim.Native.Nat.{◌-◌, ◌^◌}
 use Rattle.matching.proofs.Groups.{partial_none, next_ready, next_placed, next_none, partial_all}
@@ -7,23 +7,22 @@ use mathlib.Core.Bool.{not}
 use mathlib.Core.Path.{ap}
 use Rattle.matching.proofs.assign.Goals as goal
 
-pub loop-rest-init : goal.loop-rest-init
-loop-rest-init c = (refl, partial_none c.args.edges.now c.args.groups (2 ^ 64 - 1))
+pub loop-g-init : goal.loop-g-init
+loop-g-init c =
+    rw c.into_iter-g-iterator.ensures.into_iter_gives (rw c.members-g-items.ensures
+    (refl, partial_none c.args.edges.now c.args.groups (2 ^ 64 - 1)))
 
 pub place-requires : goal.place-requires
-place-requires c = next_ready c.loop-rest.invariant.1 c.take-next.ensures.1
+place-requires c = next_ready c.loop-g.invariant.1 c.in-Some.ensures.steps.1
 
 pub returns-then-not-place : goal.returns-then-not-place
 returns-then-not-place c =
-    let l = c.loop-rest in
-    next_none l.invariant.1 c.take-next.ensures.1 c.place.ensures l.invariant.0 (ap not c.if-not-place.true)
+    let l = c.loop-g in
+    next_none l.invariant.1 c.in-Some.ensures.steps.1 c.place.ensures l.invariant.0 (ap not c.if-not-place.true)
 
-pub loop-rest-smaller : goal.loop-rest-smaller
-loop-rest-smaller c = c.take-next.ensures.1.less
-
-pub loop-rest-preserved : goal.loop-rest-preserved
-loop-rest-preserved c =
-    (refl, next_placed c.loop-rest.invariant.1 c.take-next.ensures.1 c.place.ensures (ap not c.if-not-place.false))
+pub loop-g-preserved : goal.loop-g-preserved
+loop-g-preserved c =
+    (refl, next_placed c.loop-g.invariant.1 c.in-Some.ensures.steps.1 c.place.ensures (ap not c.if-not-place.false))
 
 pub returns : goal.returns
-returns c = partial_all c.loop-rest.invariant.1 c.loop-rest-test.false
+returns c = partial_all c.loop-g.invariant.1 c.in-None.ensures.steps.0

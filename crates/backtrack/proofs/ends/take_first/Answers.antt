@@ -1,12 +1,11 @@
 -- `backtrack::ends::take_first` meets its contract: the steps passed have the first of their domains. Assumes nothing.
 use mathlib.Core.Path.{refl}
 use native.Mathlib.Omega.{arith}
-use Rattle.bits.proofs.Below.{true-false}
 use Rattle.backtrack.proofs.Ending.{first_none, first_more, first-all}
 use Rattle.backtrack.proofs.ends.take_first.Goals as goal
 
 pub loop-s-init : goal.loop-s-init
-loop-s-init c = (omega arith, first_none c.requires.2)
+loop-s-init c = (omega arith, first_none refl)
 
 pub offset_bounds-dom-s : goal.offset_bounds-dom-s
 offset_bounds-dom-s c = omega arith
@@ -14,14 +13,8 @@ offset_bounds-dom-s c = omega arith
 pub bounds-dom-s : goal.bounds-dom-s
 bounds-dom-s c = omega arith
 
-pub returns-then-domain-eq0 : goal.returns-then-domain-eq0
-returns-then-domain-eq0 c = (c.loop-s.invariant.1.sized, λ e. true-false e refl)
-
 pub lowest-p-requires : goal.lowest-p-requires
 lowest-p-requires c = omega arith
-
-pub returns-then-p-people : goal.returns-then-p-people
-returns-then-p-people c = (c.loop-s.invariant.1.sized, λ e. true-false e refl)
 
 pub overflow_cast-plan : goal.overflow_cast-plan
 overflow_cast-plan c = omega arith
@@ -41,4 +34,4 @@ loop-s-preserved c =
     (omega arith, first_more l.1 (omega arith) (omega arith) c.lowest-p.ensures.1.has)
 
 pub returns : goal.returns
-returns c = let l = c.loop-s.invariant in (l.1.sized, λ e. first-all (omega arith) l.1)
+returns c = first-all (omega arith) c.loop-s.invariant.1

@@ -3,8 +3,5 @@ use Prim.Native.Nat.{◌<◌}
 use lib.ListN.{length}
 use Rattle.backtrack.proofs.order.keys.Given as goal
 
-abbrev pub invariant-loop-left : goal.invariant-loop-left
-invariant-loop-left l = (length l.all ≡ 12) × (l.left < 4096)
-
-abbrev pub decreases-loop-left : goal.decreases-loop-left
-decreases-loop-left l = l.left
+abbrev pub invariant-loop-s : goal.invariant-loop-s
+invariant-loop-s l = (length l.all ≡ 12) × (l.s-iterator.left < 4096)

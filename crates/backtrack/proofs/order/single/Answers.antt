@@ -1,11 +1,11 @@
 -- `backtrack::order::single` meets its contract. Assumes nothing.
-use native.Mathlib.Omega.{arith}
+use mathlib.Core.Path.{sym, ◌∙◌}
 use borrow.Author.Tests.{eqb-true}
 use Rattle.backtrack.proofs.Ordering.{single_none, single_first}
 use Rattle.backtrack.proofs.order.single.Goals as goal
 
-pub returns-then-domain-eq0 : goal.returns-then-domain-eq0
-returns-then-domain-eq0 c = λ e. single_none c.args.domain (omega arith)
+pub returns-then-is_empty : goal.returns-then-is_empty
+returns-then-is_empty c = λ e. single_none c.args.domain (eqb-true _ _ (sym c.is_empty.ensures ∙ c.if-is_empty.true))
 
 pub returns : goal.returns
-returns c = λ e. single_first c.take-next.ensures.1.removed (eqb-true _ _ e)
+returns c = λ e. single_first c.without.ensures (eqb-true _ _ (sym c.is_empty-2.ensures ∙ e))

@@ -1,49 +1,16 @@
--- `eligible::groups::labels_of` meets its contract: the labels are those of the steps passed, and the steps left fall. Assumes nothing.
-use mathlib.Core.Path.{◌≡◌, subst}
-use Prim.Native.Nat.{ℕ, ◌%◌, ◌<◌}
+-- `eligible::groups::labels_of` meets its contract. Assumes nothing.
+use mathlib.Core.Path.{◌≡◌}
+use Prim.Native.Nat.{◌%◌, ◌<◌}
 use native.Mathlib.Omega.{arith}
-use Rattle.bits.specs.Set.{Added}
+use Rattle.std.proofs.Common.{rules}
+use Rattle.bits.proofs.SetLaws.{has_below}
 use Rattle.pattern.specs.Tables.{label_in}
-use Rattle.workflow.proofs.Labels.{passed_none, passed_all, passed_adds, part_rest, turn_below, labels_none, labels_cong, labels_more}
 use Rattle.eligible.proofs.groups.labels_of.Goals as goal
-use Rattle.eligible.proofs.groups.labels_of.Goals.{After-take-next}
 
-pub overflow_sub-top : goal.overflow_sub-top
-overflow_sub-top c = c.requires.from
-
-pub overflow_mul-top : goal.overflow_mul-top
-overflow_mul-top c = omega (arith, c.requires.to)
-
-pub loop-left-init : goal.loop-left-init
-loop-left-init c = (λ s h. h, λ small n k. labels_none (λ s l h. passed_none c.args.steps s h))
-
--- the step of a turn
-below : (c : After-take-next) → c.take-next.result.first < 12
-below c = turn_below c.args.steps c.loop-left.invariant.0 c.take-next.ensures.1 12 c.requires.below
-
-pub overflow_add-top : goal.overflow_add-top
-overflow_add-top c = omega (arith, below c, c.requires.to)
-
-pub bounds-label-top : goal.bounds-label-top
-bounds-label-top c = omega (arith, below c.before.before, c.requires.sized, c.requires.from, c.requires.to)
-
-pub loop-left-smaller : goal.loop-left-smaller
-loop-left-smaller c = c.take-next.ensures.1.less
-
-pub loop-left-preserved : goal.loop-left-preserved
-loop-left-preserved c =
-    let l = c.loop-left in
+pub label_set-requires : goal.label_set-requires
+label_set-requires c =
     let a = c.args in
-    let first = c.take-next.ensures.1 in
-    let v = label_in a.label.now a.level c.take-next.result.first in (
-      part_rest a.steps l.invariant.0 first,
-      λ small n k.
-          let e : v % 64 ≡ v = omega (arith, small c.take-next.result.first (l.invariant.0 _ first.lowest.has)) in
-          labels_more (l.invariant.1 small n k) (passed_adds a.steps l.invariant.0 first n k)
-          (subst (λ (x : ℕ). Added l.labels x c.with-labels.result) e c.with-labels.ensures),
-    )
-
-pub returns : goal.returns
-returns c =
-    let l = c.loop-left in
-    λ small n k. labels_cong (λ s m. passed_all c.args.steps c.loop-left-test.false s) (l.invariant.1 small n k)
+    record {
+      may = λ s h. let below : s < 12 = has_below 12 a.steps s c.requires.below h in let q = c.requires in search rules;
+      small = λ s v h p. let is : v ≡ label_in a.label.now a.level s % 64 = search rules in omega arith;
+    }

@@ -1,12 +1,7 @@
 -- `levels::index::naming` meets its contract: the rules passed are with the steps that they name. Assumes nothing.
-use mathlib.Core.Path.{sym, subst}
-use Prim.Native.Nat.{ℕ, ◌<◌}
 use Rattle.pattern.proofs.Given.{scope_small}
-use Rattle.levels.proofs.Names.{Giving, naming_none, giving_none, giving_next, naming_next, naming_all}
+use Rattle.levels.proofs.Names.{naming_none, giving_none, giving_next, naming_next, naming_all}
 use native.Mathlib.Omega.{arith}
-use Rattle.levels.proofs.index.naming.Lts as lts
-use Rattle.levels.proofs.index.naming.Reads as reads
-use Rattle.levels.proofs.index.naming.Tie as tie
 use Rattle.levels.proofs.index.naming.Goals as goal
 
 pub loop-i-init : goal.loop-i-init
@@ -18,42 +13,25 @@ offset_bounds-rule-i c = omega (arith, c.requires.few_rules)
 pub bounds-rule-i : goal.bounds-rule-i
 bounds-rule-i c = omega (arith, c.requires.few_rules)
 
-pub scope-rest-requires : goal.scope-rest-requires
-scope-rest-requires c = tt
-
-pub loop-rest-init : goal.loop-rest-init
-loop-rest-init c =
+pub loop-s-init : goal.loop-s-init
+loop-s-init c =
     let l = c.loop-i in
-    subst (λ (m : ℕ). Giving l.i m c.args.rule.now l.of) (sym c.scope-rest.ensures)
-    (giving_none c.args.rule.now l.i l.of (scope_small c.requires l.i (omega arith)) l.invariant.1)
-
--- the step of a turn
-below : (c : lts.After-take tie.the-claims reads.Pre reads.Post goal.the-invariant-loop-rest goal.the-decreases-loop-rest goal.the-invariant-loop-i goal.the-decreases-loop-i) → c.take-next.result.first < 12
-below c = c.take-next.ensures.1.below 12 c.loop-rest.invariant.few
-
-pub offset_bounds-of-s : goal.offset_bounds-of-s
-offset_bounds-of-s c = omega (arith, below c.before)
+    rw c.into_iter-s-iterator.ensures.into_iter_gives (rw (c.members-s-items.ensures, c.scope.ensures)
+    (giving_none c.args.rule.now l.i l.of (scope_small c.requires l.i (omega arith)) l.invariant.1))
 
 pub bounds-of-s : goal.bounds-of-s
-bounds-of-s c = omega (arith, below c.before)
+bounds-of-s c = c.in-Some.ensures.steps.1.below 12 c.loop-s.invariant.few
 
 pub with-requires : goal.with-requires
 with-requires c = omega (arith, c.loop-i.invariant.0, c.requires.few_rules)
 
-pub offset_bounds-of-s-in-loop-rest : goal.offset_bounds-of-s-in-loop-rest
-offset_bounds-of-s-in-loop-rest c = omega (arith, below c.before.before)
+pub bounds-of-s-in-loop-s : goal.bounds-of-s-in-loop-s
+bounds-of-s-in-loop-s c = c.in-Some.ensures.steps.1.below 12 c.loop-s.invariant.few
 
-pub bounds-of-s-in-loop-rest : goal.bounds-of-s-in-loop-rest
-bounds-of-s-in-loop-rest c = omega (arith, below c.before.before)
-
-pub loop-rest-smaller : goal.loop-rest-smaller
-loop-rest-smaller c = c.take-next.ensures.1.less
-
-pub loop-rest-preserved : goal.loop-rest-preserved
-loop-rest-preserved c =
-    let t = c.take-next in
-    giving_next c.args.rule.now c.loop-i.i c.loop-rest.rest t.result.first t.result.rest c.with.result c.loop-rest.of
-    c.loop-rest.invariant t.ensures.1 c.with.ensures
+pub loop-s-preserved : goal.loop-s-preserved
+loop-s-preserved c =
+    giving_next c.args.rule.now c.loop-i.i c.loop-s.s-iterator.left c.in-Some.s c.next.new.self.left c.with.result c.loop-s.of
+    c.loop-s.invariant c.in-Some.ensures.steps.1 c.with.ensures
 
 pub overflow_step-i : goal.overflow_step-i
 overflow_step-i c = omega arith
@@ -63,8 +41,8 @@ loop-i-smaller c = omega arith
 
 pub loop-i-preserved : goal.loop-i-preserved
 loop-i-preserved c =
-    let l = c.loop-rest in
-    (omega arith, naming_next c.args.rule.now c.loop-i.i l.rest l.of l.invariant c.loop-rest-test.false)
+    let l = c.loop-s in
+    (omega arith, naming_next c.args.rule.now c.loop-i.i l.s-iterator.left l.of l.invariant c.in-None.ensures.steps.0)
 
 pub returns : goal.returns
 returns c =

@@ -3,9 +3,6 @@ use Rattle.eligible.specs.Classes.{ForClasses}
 use Rattle.narrow.proofs.Parting.{Parting}
 use Rattle.narrow.proofs.apart.apart.Given as goal
 
-abbrev pub invariant-loop-left : goal.invariant-loop-left
-invariant-loop-left l =
-    (l.left < 4096) × ForClasses l.crowd l.level (λ people c. Parting people c l.steps l.used l.dom l.left l.all l.heads)
-
-abbrev pub decreases-loop-left : goal.decreases-loop-left
-decreases-loop-left l = l.left
+abbrev pub invariant-loop-s : goal.invariant-loop-s
+invariant-loop-s l =
+    (l.s-iterator.left < 4096) × ForClasses l.crowd l.level (λ people c. Parting people c l.steps l.used l.dom l.s-iterator.left l.all l.heads)

@@ -3,15 +3,15 @@ use Rattle.bits.proofs.Masks.{taken_part_less}
 use Rattle.narrow.proofs.Reach.{reaching_none, reaching_more, reaching_all}
 use Rattle.narrow.proofs.apart.reach.Goals as goal
 
-pub loop-left-init : goal.loop-left-init
-loop-left-init c = λ people g. reaching_none
+pub loop-p-init : goal.loop-p-init
+loop-p-init c = rw c.members-left.ensures (λ people g. reaching_none)
 
-pub loop-left-smaller : goal.loop-left-smaller
-loop-left-smaller c = taken_part_less c.take-next.ensures.1 _
+pub loop-p-smaller : goal.loop-p-smaller
+loop-p-smaller c = taken_part_less c.in-Some.ensures.steps.1 _
 
-pub loop-left-preserved : goal.loop-left-preserved
-loop-left-preserved c =
-    λ people g. reaching_more g c.take-next.ensures.1 c.mates-mask.ensures (c.loop-left.invariant people g)
+pub loop-p-preserved : goal.loop-p-preserved
+loop-p-preserved c =
+    λ people g. reaching_more g c.in-Some.ensures.steps.1 c.mates-mask.ensures (c.loop-p.invariant people g)
 
 pub returns : goal.returns
-returns c = λ people g. reaching_all c.loop-left-test.false (c.loop-left.invariant people g)
+returns c = λ people g. reaching_all c.in_default.ensures.steps.0 (c.loop-p.invariant people g)

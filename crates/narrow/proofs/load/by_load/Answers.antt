@@ -1,53 +1,37 @@
--- `narrow::load::by_load` meets its contract: no plan that meets the rule is lost so far, and the steps left fall. Assumes nothing.
-use mathlib.Core.Path.{◌≡◌}
-use Prim.Native.Nat.{◌<◌}
+-- `narrow::load::by_load` meets its contract: no plan that meets the rule is lost so far. Assumes nothing.
 use native.Mathlib.Omega.{arith}
-use lib.ListN.{length}
 use Rattle.bits.proofs.Masks.{taken_below}
-use Rattle.narrow.proofs.Loading.{revised_sized, small_or, closing_none, closing_skip, closing_lost, closing_more}
+use Rattle.pattern.specs.Rule.{unpacked}
+use Rattle.eligible.specs.Classes.{ForJobs}
+use Rattle.narrow.specs.Domains.{Revised}
+use Rattle.narrow.proofs.Loading.{revised_sized, closing_none, closing_skip, failure, closing_then, closing_more}
 use Rattle.narrow.proofs.load.by_load.Goals as goal
-use Rattle.narrow.proofs.load.by_load.Goals.{After-take-next, At-loop-left}
 
-pub loop-left-init : goal.loop-left-init
-loop-left-init c = closing_none c.scope-left.ensures c.requires.2
-
--- the step of a turn
-below : (c : After-take-next) → c.take-next.result.first < 12
-below c = taken_below c.take-next.ensures.1 12 _ c.requires.1 c.loop-left.invariant.rest
-
--- and the domains that it finds
-sized : (c : At-loop-left) → length c.loop-left.dom ≡ 12
-sized c = revised_sized c.requires.1 c.loop-left.invariant.revised
+pub loop-s-init : goal.loop-s-init
+loop-s-init c = rw c.into_iter-s-iterator.ensures.into_iter_gives (rw c.members-s-items.ensures (closing_none c.scope.ensures c.requires.2))
 
 pub offset_bounds-dom-s : goal.offset_bounds-dom-s
-offset_bounds-dom-s c = omega (arith, below c)
+offset_bounds-dom-s c = omega (arith, taken_below c.in-Some.ensures.steps.1 12 _ c.requires.1 c.loop-s.invariant.rest)
 
 pub bounds-dom-s : goal.bounds-dom-s
-bounds-dom-s c = omega (arith, below c.before.before)
+bounds-dom-s c = omega (arith, taken_below c.in-Some.ensures.steps.1 12 _ c.requires.1 c.loop-s.invariant.rest)
 
-pub loop-left-smaller-then-mask-eq0 : goal.loop-left-smaller-then-mask-eq0
-loop-left-smaller-then-mask-eq0 c = c.take-next.ensures.1.less
+pub loop-s-preserved-then-mask-eq0 : goal.loop-s-preserved-then-mask-eq0
+loop-s-preserved-then-mask-eq0 c = closing_skip c.loop-s.invariant c.in-Some.ensures.steps.1
 
-pub loop-left-preserved-then-mask-eq0 : goal.loop-left-preserved-then-mask-eq0
-loop-left-preserved-then-mask-eq0 c = closing_skip c.loop-left.invariant c.take-next.ensures.1
+pub close-requires : goal.close-requires
+close-requires c = (c.requires.1, revised_sized c.requires.1 c.loop-s.invariant.revised)
 
-pub close-revision-requires : goal.close-revision-requires
-close-revision-requires c = (c.requires.1, sized c.before.before.before.before.before.before.before)
+pub returns-in_err-closed : goal.returns-in_err-closed
+returns-in_err-closed c =
+    let a = c.args in
+    failure (λ b. ForJobs a.crowd.now a.r (λ j. Revised j (unpacked a.r) a.dom.now c.close.new.dom b)) c.from_residual.result c.from_residual.ensures.0
+    (closing_then c.loop-s.invariant c.in-Some.ensures.steps.1 c.level-level.ensures.0 c.shared-mask.ensures c.if-mask-eq0.false c.in_err-closed.ensures.0)
 
-pub returns-then-revision : goal.returns-then-revision
-returns-then-revision c = (
-  closing_lost c.loop-left.invariant c.take-next.ensures.1 c.level-level.ensures.0 c.shared-mask.ensures c.if-mask-eq0.false
-      c.close-revision.ensures.0 c.if-revision.true,
-  small_or c.loop-left.changed c.close-revision.result.changed c.loop-left.invariant.small c.close-revision.ensures.1,
-)
-
-pub loop-left-smaller : goal.loop-left-smaller
-loop-left-smaller c = c.take-next.ensures.1.less
-
-pub loop-left-preserved : goal.loop-left-preserved
-loop-left-preserved c =
-    closing_more c.loop-left.invariant c.take-next.ensures.1 c.level-level.ensures.0 c.shared-mask.ensures c.if-mask-eq0.false
-    c.close-revision.ensures.0 c.if-revision.false c.close-revision.ensures.1
+pub loop-s-preserved : goal.loop-s-preserved
+loop-s-preserved c =
+    closing_more c.loop-s.invariant c.in-Some.ensures.steps.1 c.level-level.ensures.0 c.shared-mask.ensures c.if-mask-eq0.false
+    c.in_ok-closed.ensures.0 c.in_ok-closed.ensures.1
 
 pub returns : goal.returns
-returns c = let l = c.loop-left.invariant in (l.revised, l.small)
+returns c = let l = c.loop-s.invariant in (l.revised, l.small)

@@ -33,5 +33,5 @@ returns c = (
   λ j o. closed_rest c.within-held.ensures c.scope-scope.ensures o
       (omega (arith, c.size-load.ensures, c.load-highest.ensures, c.if-load-highest.false, c.if-load-highest-2.false))
       c.restrict.ensures (λ p b h. xor_all c.args.mask p b ∙ ap not h),
-  changed_small c.restrict.ensures (others c.before.before.before.before),
+  changed_small c.restrict.result c.restrict.ensures (others c.before.before.before.before),
 )

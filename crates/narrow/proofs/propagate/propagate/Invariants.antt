@@ -1,10 +1,10 @@
 use mathlib.Core.Bool.{true}
-use Rattle.pattern.specs.Tables.{job_in}
+use Rattle.levels.specs.Tabled.{tabled_job}
 use Rattle.narrow.specs.Domains.{Narrowed}
 use Rattle.narrow.proofs.propagate.propagate.Given as goal
 
-abbrev pub invariant-loop-waiting : goal.invariant-loop-waiting
-invariant-loop-waiting l = Narrowed (job_in l.size l.crowd l.rule) l.initial.dom l.dom true
+abbrev pub invariant-loop-i : goal.invariant-loop-i
+invariant-loop-i l = Narrowed (tabled_job l.tables) l.initial.dom l.dom true
 
-abbrev pub decreases-loop-waiting : goal.decreases-loop-waiting
-decreases-loop-waiting l = l.effort
+abbrev pub decreases-loop-i : goal.decreases-loop-i
+decreases-loop-i l = l.effort

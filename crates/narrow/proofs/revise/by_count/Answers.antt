@@ -19,5 +19,5 @@ returns-then-hopeless c =
 pub returns : goal.returns
 returns c = (
   λ size rule at. revised (state c.before.before.before.before.before size rule at) c.restrict.ensures (c.allowed-people.ensures size.people at.grouped),
-  changed_small c.restrict.ensures c.fixed-forced.ensures.0,
+  changed_small c.restrict.result c.restrict.ensures c.fixed-forced.ensures.0,
 )

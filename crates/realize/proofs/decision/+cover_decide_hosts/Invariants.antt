@@ -11,14 +11,8 @@ decreases-decide l = let t = l.task in 3 * (t.levels - t.q) + 2
 abbrev pub decreases-hosts : goal.decreases-hosts
 decreases-hosts l = let t = l.task in 3 * (t.levels - t.q)
 
-abbrev pub invariant-cover-loop-rest : goal.invariant-cover-loop-rest
-invariant-cover-loop-rest l = Linked l.may l.label l.nest l.reach l.task l.heads l.rest l.edges
+abbrev pub invariant-cover-loop-g : goal.invariant-cover-loop-g
+invariant-cover-loop-g l = Linked l.layout.may.now l.layout.label.now l.layout.nest.now l.layout.reach.now l.task l.heads l.g-iterator.left l.edges
 
-abbrev pub decreases-cover-loop-rest : goal.decreases-cover-loop-rest
-decreases-cover-loop-rest l = l.rest
-
-abbrev pub invariant-hosts-loop-rest : goal.invariant-hosts-loop-rest
-invariant-hosts-loop-rest l = Hosting l.may l.label l.nest l.reach l.task l.row l.rest l.found
-
-abbrev pub decreases-hosts-loop-rest : goal.decreases-hosts-loop-rest
-decreases-hosts-loop-rest l = l.rest
+abbrev pub invariant-hosts-loop-v : goal.invariant-hosts-loop-v
+invariant-hosts-loop-v l = Hosting l.layout.may.now l.layout.label.now l.layout.nest.now l.layout.reach.now l.task l.row l.v-iterator.left l.found

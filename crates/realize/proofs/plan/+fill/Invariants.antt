@@ -5,8 +5,5 @@ use Rattle.realize.proofs.plan.+fill.Given as goal
 abbrev pub decreases-fill : goal.decreases-fill
 decreases-fill l = let t = l.task in t.levels - t.q
 
-abbrev pub invariant-loop-rest : goal.invariant-loop-rest
-invariant-loop-rest l = Sent l.may l.label l.nest l.reach l.task l.heads l.rest l.at l.initial.plan l.plan
-
-abbrev pub decreases-loop-rest : goal.decreases-loop-rest
-decreases-loop-rest l = l.rest
+abbrev pub invariant-loop-g : goal.invariant-loop-g
+invariant-loop-g l = Sent l.layout.may.now l.layout.label.now l.layout.nest.now l.layout.reach.now l.task l.heads l.g-iterator.left l.at l.initial.plan l.plan

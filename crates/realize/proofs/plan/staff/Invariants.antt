@@ -3,8 +3,5 @@ use Rattle.pattern.specs.Tables.{may_in}
 use Rattle.realize.specs.Filling.{StaffedBy}
 use Rattle.realize.proofs.plan.staff.Given as goal
 
-abbrev pub invariant-loop-rest : goal.invariant-loop-rest
-invariant-loop-rest l = StaffedBy (may_in l.may) (has_bit l.people) l.steps l.rest l.initial.plan l.plan
-
-abbrev pub decreases-loop-rest : goal.decreases-loop-rest
-decreases-loop-rest l = l.rest
+abbrev pub invariant-loop-s : goal.invariant-loop-s
+invariant-loop-s l = StaffedBy (may_in l.may) (has_bit l.people) l.steps l.s-iterator.left l.initial.plan l.plan

@@ -6,23 +6,23 @@ use mathlib.Core.Path.{ap}
 use Rattle.search.proofs.grow.passes.Goals as goal
 
 pub eligible-requires : goal.eligible-requires
-eligible-requires c = rules_among c.requires.0.ruled c.args.may.now c.args.placed c.args.label.now c.args.among c.requires.2 c.requires.4.below
+eligible-requires c = rules_among c.requires.0.tables.given.ruled c.args.setting.now.may.now c.args.placed c.args.label.now c.args.among c.requires.1 c.requires.2.below
 
 pub returns-then-not-eligible : goal.returns-then-not-eligible
 returns-then-not-eligible c =
     let a = c.args in
     let p = c.requires in
-    passing_ruled_out p.0.ruled a.may.now a.placed a.label.now (nested_refining a.size a.nest.now a.rule.now) a.among c.eligible.result p.4 c.eligible.ensures (ap not c.if-not-eligible.true)
+    passing_ruled_out p.0.tables.given.ruled a.setting.now.may.now a.placed a.label.now (nested_refining a.setting.now.size a.setting.now.nest.now a.setting.now.rule.now) a.among c.eligible.result p.2 c.eligible.ensures (ap not c.if-not-eligible.true)
 
 pub realizable-requires : goal.realizable-requires
 realizable-requires c =
     let a = c.args in
     let p = c.requires in
-    (sized p.0.ruled a.may.now a.placed a.label.now p.1 p.2 p.0.sized p.3.sized, p.0.few_people)
+    (sized p.0.tables.given.ruled a.setting.now.may.now a.placed a.label.now p.0.masks p.1 p.0.tables.given.sized p.0.offers.sized, p.0.tables.given.few_people)
 
 pub returns : goal.returns
 returns c =
     let a = c.args in
     let p = c.requires in
-    passing_decided p.0 a.may.now a.placed a.label.now p.3 a.among c.eligible.result c.realizable.result p.2 p.4
+    passing_decided p.0.tables.given a.setting.now.may.now a.placed a.label.now p.0.offers a.among c.eligible.result c.realizable.result p.1 p.2
     c.eligible.ensures (ap not c.if-not-eligible.false) c.realizable.ensures

@@ -1,22 +1,18 @@
 -- `search::loads::keeps_load` meets its contract. Assumes nothing.
 use mathlib.Core.Path.{sym, subst}
-use Prim.Native.Nat.{ℕ, ◌*◌, ◌-◌, ◌/◌, ◌^◌, ◌≤◌, ◌<◌}
+use Rattle.std.specs.Prelude.{is_some}
+use Prim.Native.Nat.{ℕ, ◌-◌, ◌/◌, ◌^◌, ◌<◌}
 use native.Mathlib.Nat.{div-le_self}
 use native.Mathlib.Omega.{arith}
 use Rattle.pattern.specs.Rule.{level_in, load_in, scope_in}
 use Rattle.search.proofs.GreatestLoads.{width_room, none_above, keeping, keeping_unknown}
 use Rattle.search.specs.Loads.{KeepsLoad}
 use Rattle.search.proofs.loads.keeps_load.Goals as goal
-use Rattle.search.proofs.loads.keeps_load.Goals.{Else-load-lt2}
 
 pub returns-then-load-lt2 : goal.returns-then-load-lt2
 returns-then-load-lt2 c =
     let a = c.args in
     keeping_unknown a.steps a.reach.now (level_in a.r - 1) (scope_in a.r) (load_in a.r)
-
--- the classes have as many places as the load says
-room : (c : Else-load-lt2) → let load = c.load-load.result in (1 ≤ 64 / load) × (load * (64 / load) ≤ 64)
-room c = width_room c.load-load.result (omega (arith, c.if-load-lt2.false)) (omega (arith, c.load-load.ensures.1))
 
 pub below-low-requires : goal.below-low-requires
 below-low-requires c = div-le_self 64 c.load-load.result
@@ -28,7 +24,7 @@ returns-then-all-low c =
 
 pub places_of-edges-requires : goal.places_of-edges-requires
 places_of-edges-requires c =
-    let fit = room c.before.before.before.before.before in
+    let fit = width_room c.load-load.result (omega (arith, c.if-load-lt2.false)) (omega (arith, c.load-load.ensures.1)) in
     (c.requires.0, c.requires.1, omega (arith, c.level-q.ensures.0, c.requires.2, c.requires.3), fit.0, fit.1)
 
 pub returns : goal.returns
@@ -37,10 +33,11 @@ returns c =
     let load = c.load-load.result in
     let q = c.level-q.result - 1 in
     let scope = c.scope-scope.result in
-    let found = c.assign-cover.result.found in
-    subst (λ (x : ℕ). KeepsLoad a.steps a.reach.now (x - 1) (scope_in a.r) (load_in a.r) found) c.level-q.ensures.0
+    let found = is_some c.assign.result in
+    rw c.is_some.ensures
+    (subst (λ (x : ℕ). KeepsLoad a.steps a.reach.now (x - 1) (scope_in a.r) (load_in a.r) found) c.level-q.ensures.0
     (subst (λ (x : ℕ). KeepsLoad a.steps a.reach.now q x (load_in a.r) found) c.scope-scope.ensures
     (subst (λ (x : ℕ). KeepsLoad a.steps a.reach.now q scope x found) c.load-load.ensures.0
     (keeping a.steps a.reach.now q scope load (subst (λ (x : ℕ). x < 2 ^ a.steps) (sym c.scope-scope.ensures) c.requires.4) c.classes_of-all.ensures
-    (none_above c.classes_of-all.result c.below-low.result (64 / load) c.below-low.ensures c.if-all-low.false) (room c.before.before.before.before.before.before.before.before).1 c.places_of-edges.ensures
-    c.assign-cover.ensures)))
+    (none_above c.classes_of-all.result c.below-low.result (64 / load) c.below-low.ensures c.if-all-low.false) (width_room c.load-load.result (omega (arith, c.if-load-lt2.false)) (omega (arith, c.load-load.ensures.1))).1 c.places_of-edges.ensures
+    c.assign.ensures))))

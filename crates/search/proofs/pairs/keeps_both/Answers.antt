@@ -1,17 +1,13 @@
 -- `search::pairs::keeps_both` meets its contract. Assumes nothing.
 use mathlib.Core.Path.{sym, subst}
-use Prim.Native.Nat.{ℕ, ◌*◌, ◌-◌, ◌/◌, ◌^◌, ◌≤◌, ◌<◌}
+use Prim.Native.Nat.{ℕ, ◌-◌, ◌/◌, ◌^◌, ◌<◌}
 use native.Mathlib.Nat.{div-le_self}
+use Rattle.std.specs.Prelude.{is_some}
 use native.Mathlib.Omega.{arith}
 use lib.Bits.{bit_and}
 use Rattle.search.proofs.GreatestLoads.{width_room, none_above}
 use Rattle.search.proofs.PairedLoads.{keeping_both, both_of, both_unknown, both_small}
 use Rattle.search.proofs.pairs.keeps_both.Goals as goal
-use Rattle.search.proofs.pairs.keeps_both.Goals.{Else-load-lt2}
-
--- the classes have as many places as the load says
-room : (c : Else-load-lt2) → let load = c.load-load.result in (1 ≤ 64 / load) × (load * (64 / load) ≤ 64)
-room c = width_room c.load-load.result (omega (arith, c.if-load-lt2.false)) (omega (arith, c.load-load.ensures.1))
 
 pub returns-then-load-lt2 : goal.returns-then-load-lt2
 returns-then-load-lt2 c =
@@ -27,11 +23,11 @@ returns-then-all-low c =
     both_unknown a.size.steps a.size.people a.class.now a.reach.now a.r a.t
 
 pub room_of-room-requires : goal.room_of-room-requires
-room_of-room-requires c = (c.inside-within.ensures.sized, c.load.ensures.1, (room c.before.before.before.before.before.before.before.before.before.before.before).0)
+room_of-room-requires c = (c.inside-within.ensures.sized, c.load.ensures.1, (width_room c.load-load.result (omega (arith, c.if-load-lt2.false)) (omega (arith, c.load-load.ensures.1))).0)
 
 pub places_of-edges-requires : goal.places_of-edges-requires
 places_of-edges-requires c =
-    let fit = room c.before.before.before.before.before.before.before.before.before.before.before.before in
+    let fit = width_room c.load-load.result (omega (arith, c.if-load-lt2.false)) (omega (arith, c.load-load.ensures.1)) in
     (c.requires.0, c.requires.3, omega (arith, c.level-q.ensures.0, c.requires.4, c.requires.5), fit.0, fit.1)
 
 pub returns : goal.returns
@@ -39,9 +35,10 @@ returns c =
     let a = c.args in
     let scope = bit_and c.scope.result c.scope-2.result in
     let load = c.load-load.result in
-    both_of a.size.steps a.size.people a.class.now a.reach.now a.r a.t c.assign-cover.result.found c.level-q.ensures.0 c.level-fine.ensures.0
+    rw c.is_some.ensures
+    (both_of a.size.steps a.size.people a.class.now a.reach.now a.r a.t (is_some c.assign.result) c.level-q.ensures.0 c.level-fine.ensures.0
     c.scope.ensures c.scope-2.ensures c.load-load.ensures.0 c.load.ensures.0
     (keeping_both a.size.steps a.size.people a.class.now a.reach.now (c.level-q.result - 1) (c.level-fine.result - 1) scope load c.load.result
     (both_small a.size.steps c.scope.result c.scope-2.result (subst (λ (x : ℕ). x < 2 ^ a.size.steps) (sym c.scope.ensures) c.requires.8))
-    c.classes_of-all.ensures (none_above c.classes_of-all.result c.below-low.result (64 / load) c.below-low.ensures c.if-all-low.false) (room c.before.before.before.before.before.before.before.before.before.before.before.before.before.before.before.before.before).1
-    c.inside-within.ensures c.classes_of-finer.ensures c.room_of-room.ensures c.places_of-edges.ensures c.kept_to-kept.ensures c.assign-cover.ensures)
+    c.classes_of-all.ensures (none_above c.classes_of-all.result c.below-low.result (64 / load) c.below-low.ensures c.if-all-low.false) (width_room c.load-load.result (omega (arith, c.if-load-lt2.false)) (omega (arith, c.load-load.ensures.1))).1
+    c.inside-within.ensures c.classes_of-finer.ensures c.room_of-room.ensures c.places_of-edges.ensures c.kept_to-kept.ensures c.assign.ensures))

@@ -1,8 +1,5 @@
 use Prim.Native.Nat.{◌<◌}
 use Rattle.search.proofs.ways.joined.Given as goal
 
-abbrev pub invariant-loop-left : goal.invariant-loop-left
-invariant-loop-left l = l.left < 4096
-
-abbrev pub decreases-loop-left : goal.decreases-loop-left
-decreases-loop-left l = l.left
+abbrev pub invariant-loop-t : goal.invariant-loop-t
+invariant-loop-t l = l.t-iterator.left < 4096

@@ -4,8 +4,5 @@ use mathlib.Core.Path.{◌≡◌}
 use Rattle.bits.specs.Sizes.{label_entries}
 use Rattle.search.proofs.ways.leave.Given as goal
 
-abbrev pub invariant-loop-left : goal.invariant-loop-left
-invariant-loop-left l = (l.left < 4096) × (length l.free ≡ label_entries)
-
-abbrev pub decreases-loop-left : goal.decreases-loop-left
-decreases-loop-left l = l.left
+abbrev pub invariant-loop-s : goal.invariant-loop-s
+invariant-loop-s l = (l.s-iterator.left < 4096) × (length l.free ≡ label_entries)
