@@ -21,7 +21,7 @@ use Rattle.resiliency.specs.Away.{without}
 use Rattle.resiliency.specs.Known.{Known, Suits, Needed, Within, Stood, joined, Last}
 use Rattle.resiliency.proofs.Breaking.{fewer_away}
 use Rattle.resiliency.proofs.Knowing.{and_other, valid-without, without-valid}
-use Rattle.resiliency.proofs.Walking.{Stands}
+use Rattle.resiliency.specs.Onward.{Stands}
 
 -- neither of two tests holds
 or_none : (a b : Bool) → a ≡ false → b ≡ false → (a || b) ≡ false

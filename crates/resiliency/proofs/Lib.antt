@@ -4,9 +4,9 @@ pub mod Laws
 pub mod Moves
 pub mod Answered
 pub mod Knowing
-pub mod Walking
+pub mod Members
+pub mod Onward
 pub mod Lasts
-pub mod Turns
 pub mod Sizes
 pub mod Written
 pub mod Varying

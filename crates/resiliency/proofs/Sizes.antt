@@ -1,12 +1,11 @@
 -- The sizes one after the other, and what the whole walk comes to. Assumes nothing.
 use mathlib.Core.Bool.{Bool, true, false}
-use mathlib.Core.List.{List, [], ◌∷◌}
-use mathlib.Core.Logic.{inl, inr}
-use denote.Enum.Declared
-use types.Run.{OneOf}
+use mathlib.Core.List.{List, []}
 use mathlib.Core.Path.{◌≡◌, refl, sym, ap, subst, ◌∙◌}
-use Prim.Native.Nat.{ℕ, zero, suc, ◌≤◌}
+use Prim.Native.Nat.{ℕ, suc, ◌+◌, ◌-◌, ◌≤◌, ◌<◌}
 use native.Mathlib.Omega.{arith}
+use native.Mathlib.Nat.{sub-zero}
+use native.Mathlib.Numerals.{add-one}
 use lib.ListN.{replicate}
 use borrow.Author.Tests.{not-true}
 use Rattle.bits.proofs.Below.{and_right}
@@ -18,86 +17,73 @@ use Rattle.search.specs.Existence.{Existence}
 use Rattle.bits.specs.Member.{member}
 use Rattle.resiliency.specs.Away.{without, Resilient, Group, FirstBreaking}
 use Rattle.resiliency.specs.Count.{Spare, unsatisfiable, capped, broken, ends_at, first_breaking, count_from, spare, IsSpare}
-use Rattle.resiliency.specs.Known.{Known, KeptPlan, WalkedSets, told}
-use Rattle.resiliency.specs.contracts.Spared.{the_type}
-use Rattle.resiliency.specs.declared.Spared.{Spared}
-use Rattle.resiliency.specs.declared.Spared.TheVariants.{Unsatisfiable, Capped, One, Two, Three}
+use Rattle.std.specs.Prelude.{None, Some}
+use Rattle.resiliency.specs.Group.{members_in}
+use Rattle.resiliency.specs.Onward.{Onward, FirstFrom}
+use Rattle.resiliency.specs.Known.{Known, KeptPlan, told}
+use Rattle.resiliency.specs.declared.group.Group as code
+use Rattle.resiliency.specs.declared.Spared.TheVariants.{Unsatisfiable, Capped, Broken}
+use Rattle.resiliency.proofs.Breaking.{first-breaking, first_breaking_found, first_breaking_nothing, first_breaking_unique}
 use Rattle.resiliency.proofs.Knowing.{known_zero, known_kept, valid-without, without-valid}
 use Rattle.resiliency.proofs.Laws.{spare_is_spare, spare_unique}
 
--- the other variants are not `Capped`
-pub not_capped : (r : Spared) → OneOf (0 ∷ 2 ∷ 3 ∷ 4 ∷ []) (Declared.tag_of the_type r) → told r ≡ capped → ⊥
-not_capped Unsatisfiable k e = let z : ◌≡◌ {A = ℕ} 0 1 = cc in omega arith
-not_capped Capped k e = other k
-  where
-    other : OneOf (0 ∷ 2 ∷ 3 ∷ 4 ∷ []) 1 → ⊥
-    other (inl d) = omega arith
-    other (inr (inl d)) = omega arith
-    other (inr (inr (inl d))) = omega arith
-    other (inr (inr (inr d))) = omega arith
-not_capped (One a) k e = let z : ◌≡◌ {A = ℕ} 0 1 = cc in omega arith
-not_capped (Two a b) k e = let z : ◌≡◌ {A = ℕ} 0 1 = cc in omega arith
-not_capped (Three a b c) k e = let z : ◌≡◌ {A = ℕ} 0 1 = cc in omega arith
+-- the groups of all sizes are those that nobody begins
+onward_group : {people k : ℕ} {zs : List ℕ} → Group people k zs → Onward people 0 k zs
+onward_group g = record { group = g; above = λ i l. omega arith }
 
--- a walk that ended without a group goes on with what is left; with one it is over
-ends_at_capped : (t : ℕ) (f : Found) → capped ≡ ends_at t f capped → f ≡ nothing
-ends_at_capped t (found xs) e = let z : ◌≡◌ {A = ℕ} 0 1 = cc in absurd (omega arith)
-ends_at_capped t nothing e = refl
+module _ (j : Job) (may : May) where
+  -- no group of a size breaks the job
+  pub size_none : (k : ℕ) → FirstFrom j may [] 0 k None → first_breaking j may k ≡ nothing
+  size_none k h =
+      found_cases (first_breaking j may k)
+      (λ ys e. let f = first_breaking_found j may k ys e in absurd (f.breaks (h ys (onward_group f.group))))
+      (λ e. e)
 
-ends_at_other : (t : ℕ) (f : Found) (r rest : Spare) → (r ≡ capped → ⊥) → r ≡ ends_at t f capped → r ≡ ends_at t f rest
-ends_at_other t (found xs) r rest d e = e
-ends_at_other t nothing r rest d e = absurd (d e)
+  -- or the group is the first that does
+  pub size_found : (k : ℕ) (g : code.Group) → FirstFrom j may [] 0 k (Some g) → first_breaking j may k ≡ found (members_in g)
+  size_found k g h =
+      let o = h.4 in
+      let f : FirstBreaking j may k h.2
+      = first-breaking j may k h.2 o.onward.group o.breaks (λ ys y b d. b (o.before ys (onward_group y) d)) in
+      found_cases (first_breaking j may k)
+      (λ ys e. e ∙ ap found (first_breaking_unique j may k ys h.2 (first_breaking_found j may k ys e) f ∙ sym h.3))
+      (λ e. absurd (f.breaks (first_breaking_nothing j may k e h.2 f.group)))
 
-pub walk_none : (j : Job) (may : May) (t : ℕ) → capped ≡ count_from j may 0 t
-unfolding count_from
-walk_none j may t = refl
+  -- ---- the sizes: what is to come from one on is what is to come from the first
 
-pub after_none : (j : Job) (may : May) (cap : ℕ) → cap ≡ 0 → capped ≡ count_from j may cap 0
-after_none j may cap e = rw e (walk_none j may 0)
+  module _ (cap : ℕ) where
+    abbrev pub Goes : ℕ → Type 0
+    Goes t = count_from j may cap 0 ≡ count_from j may (cap - t) t
+
+    pub goes_first : Goes 0
+    goes_first = ap (λ (n : ℕ). count_from j may n 0) (sym (sub-zero cap))
+
+    one_size : (t : ℕ) → t < cap → count_from j may (cap - t) t ≡ ends_at t (first_breaking j may (suc t)) (count_from j may (cap - suc t) (suc t))
+    unfolding count_from
+    one_size t l = let e : cap - t ≡ suc (cap - suc t) = omega arith in ap (λ (n : ℕ). count_from j may n t) e
+
+    pub goes_on : (t : ℕ) → t < cap → Goes t → FirstFrom j may [] 0 (t + 1) None → Goes (t + 1)
+    goes_on t l g h =
+        rw add-one
+        (g ∙ one_size t l
+        ∙ ap (λ (f : Found). ends_at t f (count_from j may (cap - suc t) (suc t)))
+        (size_none (suc t) (subst (λ (k : ℕ). FirstFrom j may [] 0 k None) (add-one t) h)))
+
+    pub goes_found : (t : ℕ) (g : code.Group) → t < cap → Goes t → FirstFrom j may [] 0 (t + 1) (Some g)
+        → told (Broken g) ≡ count_from j may cap 0
+    goes_found t g l e h =
+        let n = h.1 in
+        let s : g.size - 1 ≡ t = omega arith in
+        ap (λ (k : ℕ). broken k (members_in g)) s
+        ∙ sym (e ∙ one_size t l
+        ∙ ap (λ (f : Found). ends_at t f (count_from j may (cap - suc t) (suc t)))
+        (size_found (suc t) g (subst (λ (k : ℕ). FirstFrom j may [] 0 k (Some g)) (add-one t) h)))
+
+    pub goes_end : (t : ℕ) → cap ≤ t → Goes t → told Capped ≡ count_from j may cap 0
+    unfolding count_from
+    goes_end t l e = let z : cap - t ≡ 0 = omega arith in sym (e ∙ ap (λ (n : ℕ). count_from j may n t) z)
 
 module _ {j : Job} {may : May} where
-  -- the walk from t on, where the groups of t + 1 are gone through
-  pub walk_goes_on : (left t : ℕ) {words plans weight : List ℕ} {r : Spared} → WalkedSets j may t words plans weight r → r ≡ Capped
-      → count_from j may (suc left) t ≡ count_from j may left (suc t)
-  unfolding count_from
-  walk_goes_on left t w e = rw (ends_at_capped t (first_breaking j may (suc t)) (sym (ap told e) ∙ w.answer)) refl
-
-  pub walk_ends : (left t : ℕ) {words plans weight : List ℕ} {r : Spared} → WalkedSets j may t words plans weight r → (told r ≡ capped → ⊥)
-      → told r ≡ count_from j may (suc left) t
-  unfolding count_from
-  walk_ends left t {r = r} w d = ends_at_other t (first_breaking j may (suc t)) (told r) (count_from j may left (suc t)) d w.answer
-
-  -- the last size
-  pub walk_last : (t : ℕ) {words plans weight : List ℕ} {r : Spared} → WalkedSets j may t words plans weight r → told r ≡ count_from j may 1 t
-  unfolding count_from
-  walk_last t w = w.answer
-
-  -- the cap is reached, or a group is found, after one size, two and three
-  pub found_one : (cap : ℕ) {words plans weight : List ℕ} {r : Spared} → (cap ≡ 0 → ⊥) → WalkedSets j may 0 words plans weight r → (told r ≡ capped → ⊥)
-      → told r ≡ count_from j may cap 0
-  found_one zero z w d = absurd (z refl)
-  found_one (suc cap) z w d = walk_ends cap 0 w d
-
-  pub after_one : (cap : ℕ) {words plans weight : List ℕ} {r : Spared} → cap ≡ 1 → WalkedSets j may 0 words plans weight r → r ≡ Capped → capped ≡ count_from j may cap 0
-  after_one cap e w h = rw e (walk_none j may 1 ∙ sym (walk_goes_on 0 0 w h))
-
-  pub found_two : (cap : ℕ) {words plans weight words' plans' weight' : List ℕ} {r q : Spared} → (cap ≡ 0 → ⊥) → (cap ≡ 1 → ⊥)
-      → WalkedSets j may 0 words plans weight r → r ≡ Capped → WalkedSets j may 1 words' plans' weight' q → (told q ≡ capped → ⊥) → told q ≡ count_from j may cap 0
-  found_two zero z o w h x d = absurd (z refl)
-  found_two (suc zero) z o w h x d = absurd (o refl)
-  found_two (suc (suc cap)) z o w h x d = walk_ends cap 1 x d ∙ sym (walk_goes_on (suc cap) 0 w h)
-
-  pub after_two : (cap : ℕ) {words plans weight words' plans' weight' : List ℕ} {r q : Spared} → cap ≡ 2 → WalkedSets j may 0 words plans weight r → r ≡ Capped
-      → WalkedSets j may 1 words' plans' weight' q → q ≡ Capped → capped ≡ count_from j may cap 0
-  after_two cap e w h x k = rw e (walk_none j may 2 ∙ sym (walk_goes_on 0 1 x k) ∙ sym (walk_goes_on 1 0 w h))
-
-  pub after_three : (cap : ℕ) {words plans weight words' plans' weight' words'' plans'' weight'' : List ℕ} {r q p : Spared}
-      → cap ≤ 3 → (cap ≡ 0 → ⊥) → (cap ≡ 1 → ⊥) → (cap ≡ 2 → ⊥)
-      → WalkedSets j may 0 words plans weight r → r ≡ Capped → WalkedSets j may 1 words' plans' weight' q → q ≡ Capped → WalkedSets j may 2 words'' plans'' weight'' p
-      → told p ≡ count_from j may cap 0
-  after_three cap l z o t w h x k y =
-      let e : cap ≡ 3 = omega arith in rw e (walk_last 2 y ∙ sym (walk_goes_on 1 1 x k) ∙ sym (walk_goes_on 2 0 w h))
-
   -- no plan with everyone present
   pub spare_none : {plan plan' : List ℕ} {r : Bool} (cap : ℕ) → Existence j may plan plan' r → r ≡ false → told Unsatisfiable ≡ spare j may cap
   spare_none cap x e = sym (spare_unique j may cap unsatisfiable (x.lost e))

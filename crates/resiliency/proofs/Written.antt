@@ -1,21 +1,21 @@
 -- The bytes of a spare count. Assumes nothing.
 use mathlib.Core.List.{List, [], ◌∷◌, ◌++◌}
-use mathlib.Core.Path.{◌≡◌, refl, sym, ap, subst, ◌∙◌}
-use Prim.Native.Nat.{ℕ, zero, suc, ◌≤◌, ◌<◌}
+use mathlib.Core.Path.{◌≡◌, refl, ap, ◌∙◌}
+use Prim.Native.Nat.{ℕ, zero, suc, ◌-◌, ◌≤◌, ◌<◌}
 use native.Mathlib.Omega.{arith}
+use native.Mathlib.Nat.{not-suc-le-zero}
 use lib.ListN.{length, drop, get_or}
 use Rattle.card.specs.Refusals.{plan_fault}
-use Rattle.workflow.specs.Problem.{Job, May}
 use Rattle.answer.specs.Bytes.{long_bytes, put_at, written}
 use Rattle.answer.specs.Number.{refusal_number}
 use Rattle.answer.proofs.Put.{put_next}
-use Rattle.resiliency.specs.Count.{spare, IsSpare}
 use Rattle.resiliency.specs.Known.{told}
-use Rattle.resiliency.specs.Left.{Left, MembersBelow}
+use Rattle.resiliency.specs.Group.{members_in, Sized}
+use Rattle.resiliency.specs.declared.group.Group.{Group}
+use Rattle.resiliency.specs.Left.{Left}
 use Rattle.resiliency.specs.Spare.{away_tags, spare_bytes}
 use Rattle.resiliency.specs.declared.Spared.{Spared}
-use Rattle.resiliency.specs.declared.Spared.TheVariants.{Unsatisfiable, Capped, One, Two, Three}
-use Rattle.resiliency.proofs.Laws.{spare_is_spare}
+use Rattle.resiliency.specs.declared.Spared.TheVariants.{Unsatisfiable, Capped, Broken}
 
 -- four numbers put one after the other
 module _ (out : List ℕ) (w a b c : ℕ) (l : 16 ≤ length out) where
@@ -45,6 +45,31 @@ written_count : (out bs : List ℕ) (n a b c : ℕ) → n ≤ 3 → bs ≡ writt
 unfolding written
 written_count out bs n a b c l e = e ∙ ap (λ (x : List ℕ). x ++ written (a ∷ b ∷ c ∷ []) ++ drop 16 out) (count_bytes_lem n l)
 
+-- the tag at a place of a group, and 0 past its end
+module _ (tags : List ℕ) where
+  pub away_at : (n k : ℕ) (xs : List ℕ) → k < n → k < length xs → get_or tags (get_or xs k 0) 0 ≡ get_or (away_tags tags n xs) k 0
+  unfolding away_tags
+  away_at zero k xs l m = absurd (not-suc-le-zero l)
+  away_at (suc n) k [] l m = absurd (not-suc-le-zero m)
+  away_at (suc n) zero (x ∷ xs) l m = refl
+  away_at (suc n) (suc k) (x ∷ xs) l m = away_at n k xs (omega arith) (omega arith)
+
+  pub away_past : (n k : ℕ) (xs : List ℕ) → length xs ≤ k → 0 ≡ get_or (away_tags tags n xs) k 0
+  unfolding away_tags
+  away_past zero k xs l = refl
+  away_past (suc n) zero [] l = refl
+  away_past (suc n) (suc k) [] l = away_past n k [] (omega arith)
+  away_past (suc n) zero (x ∷ xs) l = absurd (omega arith)
+  away_past (suc n) (suc k) (x ∷ xs) l = away_past n k xs (omega arith)
+
+  -- the three of them
+  three_tags : (xs : List ℕ) → get_or (away_tags tags 3 xs) 0 0 ∷ get_or (away_tags tags 3 xs) 1 0 ∷ get_or (away_tags tags 3 xs) 2 0 ∷ [] ≡ away_tags tags 3 xs
+  unfolding away_tags
+  three_tags [] = refl
+  three_tags (x ∷ []) = refl
+  three_tags (x ∷ y ∷ []) = refl
+  three_tags (x ∷ y ∷ z ∷ xs) = refl
+
 -- what is left, for each answer
 module _ (tags out bs : List ℕ) (cap : ℕ) (r : Spared) where
   pub left_none : (n : ℕ) → n ≡ refusal_number plan_fault 0 → r ≡ Unsatisfiable → Left (spare_bytes tags cap out (told r)) n out
@@ -55,42 +80,17 @@ module _ (tags out bs : List ℕ) (cap : ℕ) (r : Spared) where
   unfolding spare_bytes away_tags
   left_capped l e h = rw e (record { number = refl; bytes = written_count out bs cap 0 0 0 l h })
 
-  pub left_one : (a : ℕ) → r ≡ One a → bs ≡ written (0 ∷ get_or tags a 0 ∷ 0 ∷ 0 ∷ []) ++ drop 16 out → Left (spare_bytes tags cap out (told r)) 0 bs
-  unfolding spare_bytes away_tags
-  left_one a e h = rw e (record { number = refl; bytes = written_count out bs 0 (get_or tags a 0) 0 0 (omega arith) h })
-
-  pub left_two : (a b : ℕ) → r ≡ Two a b → bs ≡ written (1 ∷ get_or tags a 0 ∷ get_or tags b 0 ∷ 0 ∷ []) ++ drop 16 out
-      → Left (spare_bytes tags cap out (told r)) 0 bs
-  unfolding spare_bytes away_tags
-  left_two a b e h = rw e (record { number = refl; bytes = written_count out bs 1 (get_or tags a 0) (get_or tags b 0) 0 (omega arith) h })
-
-  pub left_three : (a b c : ℕ) → r ≡ Three a b c → bs ≡ written (2 ∷ get_or tags a 0 ∷ get_or tags b 0 ∷ get_or tags c 0 ∷ []) ++ drop 16 out
-      → Left (spare_bytes tags cap out (told r)) 0 bs
-  unfolding spare_bytes away_tags
-  left_three a b c e h =
-      rw e (record { number = refl; bytes = written_count out bs 2 (get_or tags a 0) (get_or tags b 0) (get_or tags c 0) (omega arith) h })
-
--- the members of each group
-pub named_one : {r : Spared} {a : ℕ} → r ≡ One a → MembersBelow 64 r → a < 64
-named_one e n = subst (MembersBelow 64) e n
-
-pub named_two : {r : Spared} {a b : ℕ} → r ≡ Two a b → MembersBelow 64 r → (a < 64) × (b < 64)
-named_two e n = subst (MembersBelow 64) e n
-
-pub named_three : {r : Spared} {a b c : ℕ} → r ≡ Three a b c → MembersBelow 64 r → (a < 64) × (b < 64) × (c < 64)
-named_three e n = subst (MembersBelow 64) e n
-
--- the members of the spare count's group are people
-pub named_spare : (j : Job) (may : May) (cap : ℕ) (r : Spared) → told r ≡ spare j may cap → j.people ≤ 64 → MembersBelow 64 r
-named_spare j may cap r e l = members r (subst (IsSpare j may cap) (sym e) (spare_is_spare j may cap))
-  where
-    members : (r : Spared) → IsSpare j may cap (told r) → MembersBelow 64 r
-    members Unsatisfiable h = tt
-    members Capped h = tt
-    members (One a) h = omega (arith, h.2.group.within 0 (omega arith))
-    members (Two a b) h = (omega (arith, h.2.group.within 0 (omega arith)), omega (arith, h.2.group.within 1 (omega arith)))
-    members (Three a b c) h = (
-      omega (arith, h.2.group.within 0 (omega arith)),
-      omega (arith, h.2.group.within 1 (omega arith)),
-      omega (arith, h.2.group.within 2 (omega arith)),
-    )
+  pub left_group : (g : Group) → Sized g → r ≡ Broken g → (n a b c : ℕ) → n ≡ g.size - 1 → a ≡ get_or (away_tags tags 3 (members_in g)) 0 0
+      → b ≡ get_or (away_tags tags 3 (members_in g)) 1 0 → c ≡ get_or (away_tags tags 3 (members_in g)) 2 0
+      → bs ≡ written (n ∷ a ∷ b ∷ c ∷ []) ++ drop 16 out → Left (spare_bytes tags cap out (told r)) 0 bs
+  unfolding spare_bytes
+  left_group g s e n a b c en ea eb ec h =
+      let few = s.few in
+      let tagged : a ∷ b ∷ c ∷ [] ≡ away_tags tags 3 (members_in g) = rw (ea, eb, ec) (three_tags tags (members_in g)) in
+      rw e
+      (record {
+        number = refl;
+        bytes = written_count out bs n a b c (omega arith) h
+            ∙ ap (λ (k : ℕ). (k ∷ 0 ∷ 0 ∷ 0 ∷ []) ++ written (a ∷ b ∷ c ∷ []) ++ drop 16 out) en
+            ∙ ap (λ (xs : List ℕ). ((g.size - 1) ∷ 0 ∷ 0 ∷ 0 ∷ []) ++ written xs ++ drop 16 out) tagged;
+      })

@@ -1,12 +1,16 @@
 -- Plans that are known already, and what a question about an away set comes to. Assumes nothing.
-use Rattle.std.specs.Prelude.{Bool, true, false, not, ◌&&◌, ◌||◌, List, [], ◌∷◌, ◌≡◌, ℕ, zero, suc, ◌≤◌, ◌<◌, eqb, length, get_or}
+use Rattle.std.specs.Prelude.{Option, Some, None, Bool, true, false, not, ◌&&◌, ◌||◌, List, ◌≡◌, ℕ, zero, suc, ◌-◌, ◌≤◌, ◌<◌, eqb, length, get_or}
 use Rattle.bits.specs.Word.{has_bit}
 use Rattle.workflow.specs.Problem.{Job, May, Plan, Valid, Satisfiable}
 use Rattle.pattern.specs.Tables.{may_in, plan_in}
 use Rattle.resiliency.specs.Away.{without}
-use Rattle.resiliency.specs.Count.{Spare, unsatisfiable, capped, broken, first_breaking, ends_at}
+use Rattle.resiliency.specs.Count.{Spare, unsatisfiable, capped, broken}
+use Rattle.levels.specs.declared.Tables.{Tables}
+use Rattle.levels.specs.Tabled.{tabled_job}
+use Rattle.resiliency.specs.Group.{members_in}
+use Rattle.resiliency.specs.declared.known.Kept.{Kept}
 use Rattle.resiliency.specs.declared.Spared.{Spared}
-use Rattle.resiliency.specs.declared.Spared.TheVariants.{Unsatisfiable, Capped, One, Two, Three}
+use Rattle.resiliency.specs.declared.Spared.TheVariants.{Unsatisfiable, Capped, Broken}
 
 -- the masks of the steps without the people away
 pub record Remaining (may : List ℕ) (away n : ℕ) (rest : List ℕ) : Type 0 where
@@ -84,16 +88,18 @@ pub record Last (j : Job) (may : May) (away from : ℕ) (words plans weight : Li
   pub passed : (p : ℕ) → from ≤ p → p < c → Satisfiable j (without may (joined away p))
   pub breaks : c < j.people → Satisfiable j (without may (joined away c)) → ⊥
 
+-- the plans that the code keeps are of the job that its tables pose
+pub record Keeping (t : Tables) (may : List ℕ) (k : Kept) : Type 0 where
+  pub known : Known (tabled_job t) (may_in may) k.known k.plans
+  pub weights : length k.weight ≡ 12
+
+-- what a question comes to: the people whom a plan needs, or that there is none
+abbrev pub Asked : Tables → List ℕ → (ℕ → Bool) → Kept → Option ℕ → Type 0
+Asked t may away k (Some needs) = Stood (tabled_job t) (may_in may) away k.known k.plans k.weight true needs
+Asked t may away k None = Stood (tabled_job t) (may_in may) away k.known k.plans k.weight false 0
+
 -- the answer that an enum holds
 abbrev pub told : Spared → Spare
 told Unsatisfiable = unsatisfiable
 told Capped = capped
-told (One a) = broken 0 (a ∷ [])
-told (Two a b) = broken 1 (a ∷ b ∷ [])
-told (Three a b c) = broken 2 (a ∷ b ∷ c ∷ [])
-
--- the groups of t + 1 people are gone through
-pub record WalkedSets (j : Job) (may : May) (t : ℕ) (words plans weight : List ℕ) (r : Spared) : Type 0 where
-  pub known : Known j may words plans
-  pub weights : length weight ≡ 12
-  pub answer : told r ≡ ends_at t (first_breaking j may (suc t)) capped
+told (Broken g) = broken (g.size - 1) (members_in g)

@@ -4,3 +4,5 @@ pub mod Spare
 pub mod Known
 pub mod Left
 pub mod Varied
+pub mod Group
+pub mod Onward

@@ -1,21 +1,22 @@
 // The spare call: a sheet, a buffer and a cap become a number and 16 bytes.
-ghost use Rattle.std.specs.Prelude.{[], ◌∷◌, ◌++◌, ◌≡◌, ◌≤◌, length, drop};
+ghost use Rattle.std.specs.Prelude.{[], ◌∷◌, ◌++◌, ◌≡◌, ◌≤◌, length, drop, get_or};
 ghost use Rattle.answer.specs.Bytes.{written};
+ghost use Rattle.resiliency.specs.Group.{members_in, Sized};
 ghost use Rattle.resiliency.specs.Known.{told};
-ghost use Rattle.resiliency.specs.Spare.{spare_bytes, spare_answer};
-ghost use Rattle.resiliency.specs.Left.{Left, MembersBelow};
+ghost use Rattle.resiliency.specs.Spare.{away_tags, spare_bytes, spare_answer};
+ghost use Rattle.resiliency.specs.Left.{Left, Groups};
 
 use super::Spared;
+use super::group::{Group, MOST_AWAY};
 use super::job::job_count;
 use answer::bytes::put_long;
 use answer::{number, returned};
+use bits::sizes::MOST_PEOPLE;
 use card::refusal::{CAP_FAULT, PLAN_FAULT, SHORT_FAULT};
 use remaining::read_job;
 use sheet::Reading;
 
-// The greatest cap, and the bytes of a spare count.
-const MOST_AWAY: u32 = 3;
-
+// The bytes of a spare count.
 const SPARE_BYTES: usize = 16;
 
 // Writes four numbers.
@@ -29,30 +30,35 @@ fn put_four(out: &mut [u8], count: u32, a: u32, b: u32, c: u32)
     put_long(out, 12, c);
 }
 
+// The tag of member `k` of a group, and 0 past its end.
+fn tag_at(tag: &[u32; MOST_PEOPLE], group: Group, k: usize) -> u32
+    requires { (length tag.now ≡ 64) × Sized group }
+    ensures { result ≡ get_or (away_tags tag.now 3 (members_in group)) k 0 }
+{
+    if k < group.size {
+        return tag[group.member[k] as usize];
+    }
+    0
+}
+
 // Writes the count and the tags of the group, and gives the number.
-fn write_count(tag: &[u32; 64], cap: u32, count: Spared, out: &mut [u8]) -> u32
-    requires { (length tag.now ≡ 64) × (cap ≤ 3) × (16 ≤ length out.old) × MembersBelow 64 count }
+fn write_count(tag: &[u32; MOST_PEOPLE], cap: u32, count: Spared, out: &mut [u8]) -> u32
+    requires { (length tag.now ≡ 64) × (cap ≤ 3) × (16 ≤ length out.old) × Groups count }
     ensures { Left (spare_bytes tag.now cap out.old (told count)) result out.new }
 {
     match count {
         Spared::Capped => {
             put_four(out, cap, 0, 0, 0);
-            return 0;
+            0
         }
-        Spared::Unsatisfiable => {
-            return returned(PLAN_FAULT, 0);
-        }
-        Spared::One(a) => {
-            put_four(out, 0, tag[a], 0, 0);
-            return 0;
-        }
-        Spared::Two(a, b) => {
-            put_four(out, 1, tag[a], tag[b], 0);
-            return 0;
-        }
-        Spared::Three(a, b, c) => {
-            put_four(out, 2, tag[a], tag[b], tag[c]);
-            return 0;
+        Spared::Unsatisfiable => returned(PLAN_FAULT, 0),
+        Spared::Broken(group) => {
+            let fewer = group.size as u32 - 1;
+            let first = tag_at(tag, group, 0);
+            let second = tag_at(tag, group, 1);
+            let third = tag_at(tag, group, 2);
+            put_four(out, fewer, first, second, third);
+            0
         }
     }
 }
@@ -61,7 +67,7 @@ fn write_count(tag: &[u32; 64], cap: u32, count: Spared, out: &mut [u8]) -> u32
 pub fn spare(sheet: &[u8], answer: &mut [u8], cap: u32) -> u32
     ensures { Left (spare_answer cap sheet.now answer.old) result answer.new }
 {
-    let over = cap > MOST_AWAY;
+    let over = cap as usize > MOST_AWAY;
     if over {
         return returned(CAP_FAULT, 0);
     }

@@ -3,62 +3,48 @@ ghost use Rattle.std.specs.Prelude.{◌≡◌, ◌≤◌, length};
 ghost use Rattle.levels.specs.Tabled.{tabled_job, Ready};
 ghost use Rattle.pattern.specs.Tables.{may_in};
 ghost use Rattle.resiliency.specs.Count.{count_from, spare};
-ghost use Rattle.resiliency.specs.Known.{Known, told};
+ghost use Rattle.resiliency.specs.Known.{Keeping, told};
+ghost use Rattle.resiliency.specs.Left.{Groups};
 
-use super::Spared;
-use super::known::keep_plan;
-use super::walk::{first_one, first_three, first_two};
+use crate::Spared;
+use crate::group::Group;
+use crate::known::{Kept, keep_plan};
+use crate::walk::first_group;
 use bits::set::ALL;
-use bits::sizes::{Domains, MOST_STEPS, Weights};
+use bits::sizes::{Domains, MOST_PEOPLE, MOST_STEPS};
 use levels::Tables;
 use search::exists::exists;
 use search::weights::weights;
 
 // The walk over the sizes, where a plan with everyone present exists.
-fn sizes(
-    tables: Tables,
-    may: &Domains,
-    cap: usize,
-    weight: &mut Weights,
-    known: &mut [u64; 64],
-    plans: &mut [u64; 64],
-) -> Spared
-    requires { Ready tables × (length may.now ≡ 12) × (length weight.old ≡ 12) × (cap ≤ 3)
-        × Known (tabled_job tables) (may_in may.now) known.old plans.old }
-    ensures { told result ≡ count_from (tabled_job tables) (may_in may.now) cap 0 }
+fn sizes(tables: &Tables, may: &Domains, cap: usize, kept: &mut Kept) -> Spared
+    requires { Ready tables.now × (length may.now ≡ 12) × (cap ≤ 3) × Keeping tables.now may.now kept.old }
+    ensures { (told result ≡ count_from (tabled_job tables.now) (may_in may.now) cap 0) × Groups result }
 {
-    if cap == 0 {
-        return Spared::Capped;
+    for size in 0..cap {
+        let found = first_group(tables, may, Group::none(), 0, size + 1, kept);
+        if let Some(group) = found {
+            return Spared::Broken(group);
+        }
     }
-    let one = first_one(tables, may, weight, known, plans);
-    let Spared::Capped = one else {
-        return one;
-    };
-    if cap == 1 {
-        return Spared::Capped;
-    }
-    let two = first_two(tables, may, weight, known, plans);
-    let Spared::Capped = two else {
-        return two;
-    };
-    if cap == 2 {
-        return Spared::Capped;
-    }
-    first_three(tables, may, weight, known, plans)
+    Spared::Capped
 }
 
 // The spare count of a job with a cap of at most 3.
-pub fn spare_count(tables: Tables, may: &Domains, cap: usize) -> Spared
-    requires { Ready tables × (length may.now ≡ 12) × (cap ≤ 3) }
-    ensures { told result ≡ spare (tabled_job tables) (may_in may.now) cap }
+pub fn spare_count(tables: &Tables, may: &Domains, cap: usize) -> Spared
+    requires { Ready tables.now × (length may.now ≡ 12) × (cap ≤ 3) }
+    ensures { (told result ≡ spare (tabled_job tables.now) (may_in may.now) cap) × Groups result }
 {
     let mut weight = weights(&tables.of);
     let mut plan = [0u8; MOST_STEPS];
-    if !exists(tables, may, &mut weight, &mut plan) {
+    if !exists(*tables, may, &mut weight, &mut plan) {
         return Spared::Unsatisfiable;
     }
-    let mut known = [0u64; 64];
-    let mut plans = [ALL; 64];
-    keep_plan(tables.size.steps, &plan, &mut known, &mut plans);
-    sizes(tables, may, cap, &mut weight, &mut known, &mut plans)
+    let mut kept = Kept {
+        known: [0; MOST_PEOPLE],
+        plans: [ALL; MOST_PEOPLE],
+        weight,
+    };
+    keep_plan(tables.size.steps, &plan, &mut kept.known, &mut kept.plans);
+    sizes(tables, may, cap, &mut kept)
 }

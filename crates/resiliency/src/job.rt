@@ -4,6 +4,7 @@ ghost use Rattle.sheet.specs.Readable.{ReadableJob};
 ghost use Rattle.instance.specs.Instance.{instance_of, may_of};
 ghost use Rattle.resiliency.specs.Count.{spare};
 ghost use Rattle.resiliency.specs.Known.{told};
+ghost use Rattle.resiliency.specs.Left.{Groups};
 
 use super::Spared;
 use super::count::spare_count;
@@ -12,8 +13,8 @@ use tables::{may_masks, pose};
 
 pub fn job_count(job: SheetJob, people: usize, steps: usize, rules: usize, cap: usize) -> Spared
     requires { ReadableJob people steps rules job × (cap ≤ 3) }
-    ensures { told result ≡ spare (instance_of people steps rules job) (may_of job) cap }
+    ensures { (told result ≡ spare (instance_of people steps rules job) (may_of job) cap) × Groups result }
 {
     let may = may_masks(&job.permitted, people);
-    spare_count(pose(job, people, steps, rules), &may, cap)
+    spare_count(&pose(job, people, steps, rules), &may, cap)
 }

@@ -2,23 +2,23 @@
 // first: each has its people as a mask, and each person's word says which of them do without that person.
 ghost use Rattle.std.specs.Prelude.{◌≡◌, ℕ, ◌≤◌, ◌<◌, length, get_or};
 ghost use Rattle.bits.specs.Word.{has_bit};
-ghost use Rattle.levels.specs.Tabled.{tabled_job, Ready};
-ghost use Rattle.pattern.specs.Tables.{may_in};
-ghost use Rattle.resiliency.specs.Known.{Remaining, Uses, Noted, Moved, Known, Needed, KeptPlan, Stood};
+ghost use Rattle.levels.specs.Tabled.{Ready};
+ghost use Rattle.resiliency.specs.Known.{Remaining, Uses, Noted, Moved, Needed, KeptPlan, Keeping, Asked};
 
 use super::varied::varied;
 use bits::set::{has, take, with};
-use bits::sizes::{Domains, MOST_STEPS, Plan, Weights};
+use bits::sizes::{Domains, MOST_PEOPLE, MOST_STEPS, Plan, Weights};
 use levels::Tables;
 
 // All plans but the one kept longest.
 const ALL_BUT_LAST: u64 = 0x7fff_ffff_ffff_ffff;
 
-// Whether a plan was found, and the people it needs: anyone else may be away as well.
+// The last plans found, and the weights of the search.
 #[derive(Drop)]
-pub struct Search {
-    pub found: bool,
-    pub needs: u64,
+pub struct Kept {
+    pub known: [u64; MOST_PEOPLE],
+    pub plans: [u64; MOST_PEOPLE],
+    pub weight: Weights,
 }
 
 // The people permitted who are not away, for each step.
@@ -105,30 +105,16 @@ pub fn needed(word: u64, plans: &[u64; 64], among: u64) -> u64
     rest
 }
 
-// Searches for a plan without the people away, and keeps it.
-pub fn searched(
-    tables: Tables,
-    may: &Domains,
-    away: u64,
-    weight: &mut Weights,
-    known: &mut [u64; 64],
-    plans: &mut [u64; 64],
-) -> Search
-    requires { Ready tables × (length may.now ≡ 12) × (length weight.old ≡ 12)
-        × Known (tabled_job tables) (may_in may.now) known.old plans.old }
-    ensures { Stood (tabled_job tables) (may_in may.now) (has_bit away) known.new plans.new weight.new result.found result.needs }
+// Searches for a plan without the people away, and keeps it. Gives the people whom it needs: anyone else may be away as well.
+pub fn searched(tables: &Tables, may: &Domains, away: u64, kept: &mut Kept) -> Option<u64>
+    requires { Ready tables.now × (length may.now ≡ 12) × Keeping tables.now may.now kept.old }
+    ensures { Asked tables.now may.now (has_bit away) kept.new result }
 {
     let rest = remaining(may, away);
     let mut plan = [0u8; MOST_STEPS];
-    if !varied(tables, &rest, plans, weight, &mut plan) {
-        return Search {
-            found: false,
-            needs: 0,
-        };
+    if !varied(*tables, &rest, &kept.plans, &mut kept.weight, &mut plan) {
+        return None;
     }
-    let needs = keep_plan(tables.size.steps, &plan, known, plans);
-    Search {
-        found: true,
-        needs: needs,
-    }
+    let needs = keep_plan(tables.size.steps, &plan, &mut kept.known, &mut kept.plans);
+    Some(needs)
 }

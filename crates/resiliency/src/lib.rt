@@ -3,10 +3,13 @@
 
 pub mod call;
 mod count;
+pub mod group;
 mod job;
 mod known;
 mod varied;
 mod walk;
+
+use group::Group;
 
 // No valid plan with everyone present; as many absences as the cap; or the group, in crew order, whose
 // absence leaves no valid plan: the count is one less.
@@ -14,7 +17,5 @@ mod walk;
 pub enum Spared {
     Unsatisfiable,
     Capped,
-    One(usize),
-    Two(usize, usize),
-    Three(usize, usize, usize),
+    Broken(Group),
 }

@@ -1,108 +1,66 @@
-// The away sets by size, each size in crew order, up to the first whose absence leaves no valid plan.
-// Of the sets that differ in their last member alone, those that a plan found answers for are passed over.
-ghost use Rattle.std.specs.Prelude.{◌≡◌, length};
+// The away sets of a size, in crew order, up to the first whose absence leaves no valid plan. Of those that differ in their last member
+// alone, the ones that a plan found answers for are passed over.
+ghost use Rattle.std.specs.Prelude.{◌≡◌, ◌+◌, ◌≤◌, ◌<◌, length};
 ghost use Rattle.levels.specs.Tabled.{tabled_job, Ready};
 ghost use Rattle.pattern.specs.Tables.{may_in};
-ghost use Rattle.resiliency.specs.Known.{Known, WalkedSets};
+ghost use Rattle.resiliency.specs.Group.{members_in, Sized};
+ghost use Rattle.resiliency.specs.Known.{Keeping};
+ghost use Rattle.resiliency.specs.Onward.{FirstFrom};
 
-use super::Spared;
-use super::known::{needed, searched};
-use bits::set::{ALL, below, take, with};
-use bits::sizes::{Domains, Weights};
+use crate::group::Group;
+use crate::known::{Kept, needed, searched};
+use bits::set::{below, take, with};
+use bits::sizes::Domains;
 use levels::Tables;
 
-// The first person whose absence leaves no valid plan.
-pub fn first_one(
-    tables: Tables,
+// The group with the first person, from one on, whose absence besides leaves no valid plan.
+fn last_member(
+    tables: &Tables,
     may: &Domains,
-    weight: &mut Weights,
-    known: &mut [u64; 64],
-    plans: &mut [u64; 64],
-) -> Spared
-    requires { Ready tables × (length may.now ≡ 12) × (length weight.old ≡ 12)
-        × Known (tabled_job tables) (may_in may.now) known.old plans.old }
-    ensures { WalkedSets (tabled_job tables) (may_in may.now) 0 known.new plans.new weight.new result }
+    away: Group,
+    from: usize,
+    kept: &mut Kept,
+) -> Option<Group>
+    requires { Ready tables.now × (length may.now ≡ 12) × Keeping tables.now may.now kept.old × Sized away × (away.size < 3) × (from ≤ tables.now.size.people) }
+    ensures { Keeping tables.now may.now kept.new × FirstFrom (tabled_job tables.now) (may_in may.now) (members_in away) from 1 result }
 {
-    let mut first = Spared::Capped;
-    let mut rest = needed(ALL, plans, below(tables.size.people));
-    'walk: while rest != 0 {
+    let people = away.set();
+    let among = below(tables.size.people) ^ below(from);
+    let mut rest = needed(away.spared_by(&kept.known), &kept.plans, among);
+    while rest != 0 {
         let next = take(rest);
         rest = next.rest;
-        let a = next.first;
-        let search = searched(tables, may, with(0, a), weight, known, plans);
-        if !search.found {
-            first = Spared::One(a);
-            break 'walk;
-        }
-        rest = rest & search.needs;
+        let p = next.first;
+        let stands = searched(tables, may, with(people, p), kept);
+        let Some(needs) = stands else {
+            return Some(away.and(p));
+        };
+        rest = rest & needs;
     }
-    first
+    None
 }
 
-// The first two people whose absence leaves no valid plan.
-pub fn first_two(
-    tables: Tables,
+// The first group of these people and so many more, from one on, whose absence leaves no valid plan.
+pub fn first_group(
+    tables: &Tables,
     may: &Domains,
-    weight: &mut Weights,
-    known: &mut [u64; 64],
-    plans: &mut [u64; 64],
-) -> Spared
-    requires { Ready tables × (length may.now ≡ 12) × (length weight.old ≡ 12)
-        × Known (tabled_job tables) (may_in may.now) known.old plans.old }
-    ensures { WalkedSets (tabled_job tables) (may_in may.now) 1 known.new plans.new weight.new result }
+    away: Group,
+    from: usize,
+    more: usize,
+    kept: &mut Kept,
+) -> Option<Group>
+    requires { Ready tables.now × (length may.now ≡ 12) × Keeping tables.now may.now kept.old × Sized away × (1 ≤ more) × (away.size + more ≤ 3) × (from ≤ tables.now.size.people) }
+    ensures { Keeping tables.now may.now kept.new × FirstFrom (tabled_job tables.now) (may_in may.now) (members_in away) from more result }
 {
+    if more == 1 {
+        return last_member(tables, may, away, from, kept);
+    }
     let people = tables.size.people;
-    let everyone = below(people);
-    let mut first = Spared::Capped;
-    'walk: for a in 0..people {
-        let away = with(0, a);
-        let mut rest = needed(known[a], plans, everyone ^ below(a + 1));
-        while rest != 0 {
-            let next = take(rest);
-            rest = next.rest;
-            let b = next.first;
-            let search = searched(tables, may, with(away, b), weight, known, plans);
-            if !search.found {
-                first = Spared::Two(a, b);
-                break 'walk;
-            }
-            rest = rest & search.needs;
+    for p in from..people {
+        let found = first_group(tables, may, away.and(p), p + 1, more - 1, kept);
+        if let Some(group) = found {
+            return Some(group);
         }
     }
-    first
-}
-
-// The first three people whose absence leaves no valid plan.
-pub fn first_three(
-    tables: Tables,
-    may: &Domains,
-    weight: &mut Weights,
-    known: &mut [u64; 64],
-    plans: &mut [u64; 64],
-) -> Spared
-    requires { Ready tables × (length may.now ≡ 12) × (length weight.old ≡ 12)
-        × Known (tabled_job tables) (may_in may.now) known.old plans.old }
-    ensures { WalkedSets (tabled_job tables) (may_in may.now) 2 known.new plans.new weight.new result }
-{
-    let people = tables.size.people;
-    let everyone = below(people);
-    let mut first = Spared::Capped;
-    'walk: for a in 0..people {
-        for b in a + 1..people {
-            let away = with(with(0, a), b);
-            let mut rest = needed(known[a] & known[b], plans, everyone ^ below(b + 1));
-            while rest != 0 {
-                let next = take(rest);
-                rest = next.rest;
-                let c = next.first;
-                let search = searched(tables, may, with(away, c), weight, known, plans);
-                if !search.found {
-                    first = Spared::Three(a, b, c);
-                    break 'walk;
-                }
-                rest = rest & search.needs;
-            }
-        }
-    }
-    first
+    None
 }

@@ -4,7 +4,6 @@ use borrow.Author.Rules.{rules}
 use Rattle.sheet.specs.Readable.{ReadableJob}
 use Rattle.resiliency.proofs.Answered.{left_cap, left_refused, left_short, job_readable, left_count}
 use Rattle.answer.proofs.Returnable.{read_returnable}
-use Rattle.resiliency.proofs.Written.{named_spare}
 use Rattle.resiliency.proofs.call.spare.Lts as lts
 use Rattle.resiliency.proofs.call.spare.Reads as reads
 use Rattle.resiliency.proofs.call.spare.Tie as tie
@@ -40,10 +39,10 @@ write_count-requires c =
       search rules,
       c.if-over.false,
       c.if-short.false,
-      named_spare _ _ _ n.result n.ensures (readable c.before.before.before.before.before.before).people_most,
+      n.ensures.1,
     )
 
 pub returns : goal.returns
 returns c =
     left_count _ _ _ c.read_job-read.result c.read_job-read.ensures c.if-over.false c.in-Readable.people c.in-Readable.steps c.in-Readable.rules c.in-Readable.is c.if-short.false _ _ _
-    c.job_count-count.ensures c.write_count.ensures
+    c.job_count-count.ensures.0 c.write_count.ensures

@@ -1,29 +1,31 @@
--- Each size is gone through where the cap is not reached and the size before has no group. Assumes nothing.
-use borrow.Enum.Refused.{opened}
-use Rattle.resiliency.proofs.Sizes.{not_capped, after_none, found_one, after_one, found_two, after_two, after_three}
+-- Each size is gone through where the size before has no group. Assumes nothing.
+use mathlib.Core.List.{List}
+use mathlib.Core.Path.{subst}
+use Prim.Native.Nat.{ℕ, ◌+◌}
+use native.Mathlib.Omega.{arith}
+use Rattle.std.specs.Prelude.{None, Some}
+use Rattle.levels.specs.Tabled.{tabled_job}
+use Rattle.pattern.specs.Tables.{may_in}
+use Rattle.resiliency.specs.Onward.{FirstFrom}
+use Rattle.resiliency.proofs.Sizes.{goes_first, goes_on, goes_found, goes_end}
 use Rattle.resiliency.proofs.count.sizes.Goals as goal
 
-pub returns-then-cap-eq0 : goal.returns-then-cap-eq0
-returns-then-cap-eq0 c = after_none _ _ c.args.cap c.if-cap-eq0.true
+pub loop-size-init : goal.loop-size-init
+loop-size-init c = (c.requires.3, goes_first (tabled_job c.args.tables.now) (may_in c.args.may.now) c.args.cap)
 
-pub returns-in_default : goal.returns-in_default
-returns-in_default c =
-    found_one c.args.cap c.if-cap-eq0.false c.first_one-one.ensures (not_capped c.first_one-one.result (opened c.in_default.in_default-own.keys2))
+pub returns-in-Some : goal.returns-in-Some
+returns-in-Some c = (
+  goes_found (tabled_job c.args.tables.now) (may_in c.args.may.now) c.args.cap c.loop-size.size c.in-Some.group c.loop-size-test.true c.loop-size.invariant.1
+      (subst (λ (xs : List ℕ). FirstFrom (tabled_job c.args.tables.now) (may_in c.args.may.now) xs 0 (c.loop-size.size + 1) (Some c.in-Some.group)) c.none.ensures.1 c.in-Some.ensures.1),
+  (c.in-Some.ensures.1.0, (let n = c.in-Some.ensures.1.1 in omega arith)),
+)
 
-pub returns-then-cap-eq1 : goal.returns-then-cap-eq1
-returns-then-cap-eq1 c =
-    after_one c.args.cap c.if-cap-eq1.true c.first_one-one.ensures c.in-Capped.is
-
-pub returns-in_default-two : goal.returns-in_default-two
-returns-in_default-two c =
-    found_two c.args.cap c.if-cap-eq0.false c.if-cap-eq1.false c.first_one-one.ensures c.in-Capped.is c.first_two-two.ensures
-    (not_capped c.first_two-two.result (opened c.in_default-two.in_default-two-own.keys2))
-
-pub returns-then-cap-eq2 : goal.returns-then-cap-eq2
-returns-then-cap-eq2 c =
-    after_two c.args.cap c.if-cap-eq2.true c.first_one-one.ensures c.in-Capped.is c.first_two-two.ensures c.in-Capped-two.is
+pub loop-size-preserved : goal.loop-size-preserved
+loop-size-preserved c = (
+  c.first_group-found.ensures.0,
+  goes_on (tabled_job c.args.tables.now) (may_in c.args.may.now) c.args.cap c.loop-size.size c.loop-size-test.true c.loop-size.invariant.1
+      (subst (λ (xs : List ℕ). FirstFrom (tabled_job c.args.tables.now) (may_in c.args.may.now) xs 0 (c.loop-size.size + 1) None) c.none.ensures.1 c.in_default.ensures.1),
+)
 
 pub returns : goal.returns
-returns c =
-    after_three c.args.cap c.requires.3 c.if-cap-eq0.false c.if-cap-eq1.false c.if-cap-eq2.false c.first_one-one.ensures c.in-Capped.is
-    c.first_two-two.ensures c.in-Capped-two.is c.first_three.ensures
+returns c = (goes_end (tabled_job c.args.tables.now) (may_in c.args.may.now) c.args.cap c.loop-size.size c.loop-size-test.false c.loop-size.invariant.1, tt)

@@ -8,7 +8,7 @@ use mathlib.Core.Path.{ap}
 use Rattle.resiliency.proofs.count.spare_count.Goals as goal
 
 pub returns-then-not-exists : goal.returns-then-not-exists
-returns-then-not-exists c = spare_none c.args.cap c.exists.ensures.0 (not-true c.exists.result (ap not c.if-not-exists.true))
+returns-then-not-exists c = (spare_none c.args.cap c.exists.ensures.0 (not-true c.exists.result (ap not c.if-not-exists.true)), tt)
 
 pub keep_plan-requires : goal.keep_plan-requires
 keep_plan-requires c = (
@@ -24,11 +24,15 @@ sizes-requires c =
     let p = c.requires in (
       p.0,
       p.1,
-      c.exists.ensures.1,
       p.2,
-      known_first c.exists.ensures.0 (not-false c.exists.result (ap not c.if-not-exists.false)) p.0.tabled.given.few_people c.keep_plan.ensures,
+      record {
+        known = known_first c.exists.ensures.0 (not-false c.exists.result (ap not c.if-not-exists.false)) p.0.tabled.given.few_people c.keep_plan.ensures;
+        weights = c.exists.ensures.1;
+      },
     )
 
 pub returns : goal.returns
-returns c =
-    c.sizes.ensures ∙ sym (spare-walk c.args.cap c.exists.ensures.0 (not-false c.exists.result (ap not c.if-not-exists.false)))
+returns c = (
+  c.sizes.ensures.0 ∙ sym (spare-walk c.args.cap c.exists.ensures.0 (not-false c.exists.result (ap not c.if-not-exists.false))),
+  c.sizes.ensures.1,
+)

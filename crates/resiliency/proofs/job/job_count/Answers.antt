@@ -19,6 +19,8 @@ spare_count-requires c = (c.pose.ensures.ready, c.may_masks-may.ensures.size, c.
 pub returns : goal.returns
 returns c =
     let w = c.pose.ensures in
-    let m = permits _ _ _ c.requires.0.steps_most c.may_masks-may.ensures in
-    c.spare_count.ensures
-    ∙ spare_other _ _ _ _ w.same.steps w.same.people (λ π. (posed_valid w m π).1) (λ π. (posed_valid w m π).0) c.args.cap
+    let m = permits _ _ _ c.requires.0.steps_most c.may_masks-may.ensures in (
+      c.spare_count.ensures.0
+          ∙ spare_other _ _ _ _ w.same.steps w.same.people (λ π. (posed_valid w m π).1) (λ π. (posed_valid w m π).0) c.args.cap,
+      c.spare_count.ensures.1,
+    )

@@ -8,7 +8,7 @@ use Rattle.resiliency.proofs.known.searched.Goals as goal
 pub returns-then-not-varied : goal.returns-then-not-varied
 returns-then-not-varied c =
     let v = c.varied in
-    searched_lost c.requires.3 c.remaining-rest.ensures c.requires.0.tabled.given.ruled.few_steps v.ensures.0 (not-true v.result (ap not c.if-not-varied.true)) v.ensures.1
+    searched_lost c.requires.2.known c.remaining-rest.ensures c.requires.0.tabled.given.ruled.few_steps v.ensures.0 (not-true v.result (ap not c.if-not-varied.true)) v.ensures.1
 
 pub keep_plan-needs-requires : goal.keep_plan-needs-requires
 keep_plan-needs-requires c =
@@ -17,12 +17,12 @@ keep_plan-needs-requires c =
       p.0.tabled.given.ruled.few_steps,
       v.ensures.0.sized,
       found_people v.ensures.0 (not-false v.result (ap not c.if-not-varied.false)) p.0.tabled.given.few_people,
-      p.3.sized,
-      p.3.masks,
+      p.2.known.sized,
+      p.2.known.masks,
     )
 
 pub returns : goal.returns
 returns c =
     let v = c.varied in
     let p = c.requires in
-    searched_won p.3 c.remaining-rest.ensures p.0.tabled.given.ruled.few_steps v.ensures.0 (not-false v.result (ap not c.if-not-varied.false)) c.keep_plan-needs.ensures v.ensures.1
+    searched_won p.2.known c.remaining-rest.ensures p.0.tabled.given.ruled.few_steps v.ensures.0 (not-false v.result (ap not c.if-not-varied.false)) c.keep_plan-needs.ensures v.ensures.1
