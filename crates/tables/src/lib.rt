@@ -6,6 +6,7 @@ ghost use Rattle.std.specs.Prelude.{not, ◌≡◌, ℕ, ◌+◌, ◌^◌, ◌<�
 ghost use Rattle.bits.specs.Sizes.{most_levels, class_words, class_entries};
 ghost use Rattle.bits.specs.Slots.{FirstOfSlot};
 ghost use Rattle.workflow.specs.Problem.{least_of, most_of, heaviest_of, fewest};
+ghost use Rattle.workflow.specs.Kinds.{kind_of};
 ghost use Rattle.workflow.specs.Numbered.{kind_in};
 ghost use Rattle.pattern.specs.Number.{first_use, classes_before};
 ghost use Rattle.sheet.specs.Readable.{ReadableJob};
@@ -16,13 +17,14 @@ ghost use Rattle.tables.specs.Rows.{Pushed};
 use bits::columns::column;
 use bits::sizes::{
     CLASS_ENTRIES, ClassWords, Classes, Domains, MOST_PEOPLE, MOST_RULES, MOST_STEPS, PersonWords,
-    RuleBytes, Rules, SLOTS, SlotPeople,
+    Rules, SLOTS, SlotPeople,
 };
+use bits::set::Set;
 use bits::slots::first_there;
-use bits::small;
 use levels::{Tables, keep};
 use pattern::{Size, rule};
 use sheet::SheetJob;
+use workflow::kind::RuleKind;
 
 // Puts the bits of a person's word below those of the people after, one for each step.
 fn push(word: u16, may: &mut Domains)
@@ -51,13 +53,10 @@ fn first_with(words: &PersonWords, people: usize, p: usize) -> usize
     requires { (length words.now ≡ 64) × (p < people) × (people ≤ 64) }
     ensures { result ≡ first_use people (word_of words.now) p }
 {
-    let word = words[p];
-    let mut q = 0;
-    while q < people {
-        if words[q] == word {
+    for q in 0..people {
+        if words[q] == words[p] {
             return q;
         }
-        q += 1;
     }
     people
 }
@@ -143,78 +142,68 @@ fn fewest_classes(size: usize, load: usize) -> usize
 }
 
 // The least count of a rule of a kind with so many steps in its scope.
-fn least(kind: u8, limit: usize, size: usize) -> usize
+fn least(kind: RuleKind, limit: usize, size: usize) -> usize
     requires { (size ≤ 16) × (limit ≤ 255) }
-    ensures { result ≡ least_of (kind_in kind) limit size }
+    ensures { result ≡ least_of (kind_of kind) limit size }
 {
-    if kind > 4 {
-        return fewest_classes(size, limit);
-    }
     match kind {
-        0..=1 => 1,
-        2 => 2,
-        3 => 0,
-        _ => limit,
+        RuleKind::Same => 1,
+        RuleKind::Different => 2,
+        RuleKind::AtMost => 0,
+        RuleKind::AtLeast => limit,
+        RuleKind::MaxLoad => fewest_classes(size, limit),
     }
 }
 
 // The greatest count of a rule of a kind.
-fn most(kind: u8, limit: usize, steps: usize) -> usize
-    ensures { result ≡ most_of (kind_in kind) limit steps }
+fn most(kind: RuleKind, limit: usize, steps: usize) -> usize
+    ensures { result ≡ most_of (kind_of kind) limit steps }
 {
     match kind {
-        0..=1 => 1,
-        2 => 2,
-        3 => limit,
+        RuleKind::Same => 1,
+        RuleKind::Different => 2,
+        RuleKind::AtMost => limit,
+        RuleKind::AtLeast | RuleKind::MaxLoad => steps,
+    }
+}
+
+// The greatest load of a rule of a kind: one kind alone limits it.
+fn heaviest(kind: RuleKind, limit: usize, steps: usize) -> usize
+    ensures { result ≡ heaviest_of (kind_of kind) limit steps }
+{
+    match kind {
+        RuleKind::MaxLoad => limit,
         _ => steps,
     }
 }
 
-// The greatest load of a rule of a kind: kind 5 alone limits it.
-fn heaviest(kind: u8, limit: usize, steps: usize) -> usize
-    ensures { result ≡ heaviest_of (kind_in kind) limit steps }
-{
-    if kind > 4 {
-        return limit;
-    }
-    steps
-}
-
-// The smaller of two numbers.
-fn smaller(a: usize, b: usize) -> usize
-    ensures { result ≡ min a b }
-{
-    if b < a {
-        return b;
-    }
-    a
-}
-
 // A rule as a number. Where skipped steps are left out, its bounds are at most the steps left in its scope, and those of the job.
-fn packed_rule(kind: u8, level: u8, limit: u8, scope: u16, steps: usize) -> u32
+fn packed_rule(kind: RuleKind, level: u8, limit: u8, scope: u16, steps: usize) -> u32
     requires { (level ≤ most_levels) × (limit ≤ 12) × (steps ≤ 12) × (scope < 2 ^ steps) }
-    ensures { Packs steps kind level limit scope result }
+    ensures { (n : ℕ) → kind_of kind ≡ kind_in n → Packs steps n level limit scope result }
 {
-    let least = least(kind, limit as usize, small::size(scope));
-    let low = smaller(least, small::size(scope));
-    let high = smaller(most(kind, limit as usize, steps), steps);
-    let load = smaller(heaviest(kind, limit as usize, steps), steps);
+    let least = least(kind, limit as usize, scope.size());
+    let low = least.min(scope.size());
+    let high = most(kind, limit as usize, steps).min(steps);
+    let load = heaviest(kind, limit as usize, steps).min(steps);
     rule::pack(level as usize, low, high, load, scope)
 }
 
 // Whether a plan can break a rule: not one that is left with one step or none.
-fn can_break(kind: u8, limit: u8, scope: u16, steps: usize) -> bool
+fn can_break(kind: RuleKind, limit: u8, scope: u16, steps: usize) -> bool
     requires { (steps ≤ 12) × (scope < 2 ^ steps) }
-    ensures { result ≡ not (unbroken steps kind limit scope) }
+    ensures { (n : ℕ) → kind_of kind ≡ kind_in n → result ≡ not (unbroken steps n limit scope) }
 {
-    let left = small::size(scope);
+    let left = scope.size();
     if left > 1 {
         return true;
     }
-    if left > smaller(most(kind, limit as usize, steps), steps) {
+    let high = most(kind, limit as usize, steps).min(steps);
+    if left > high {
         return true;
     }
-    left > smaller(heaviest(kind, limit as usize, steps), steps)
+    let load = heaviest(kind, limit as usize, steps).min(steps);
+    left > load
 }
 
 // The rules of a job that a plan can break, as numbers.
@@ -225,22 +214,18 @@ struct Breakable {
 }
 
 // Without the others the search has no more to look at than on a sheet without the skipped steps.
-fn packed<'a>(
-    kind: &'a RuleBytes,
-    level: &'a RuleBytes,
-    limit: &'a RuleBytes,
-    scope: &'a [u16; MOST_RULES],
-    steps: usize,
-    rules: usize,
-) -> Breakable
-    requires { Packable steps rules level.now limit.now scope.now × (length kind.now ≡ 64) }
-    ensures { PackedRules steps rules kind.now level.now limit.now scope.now result.rule result.count }
+fn packed(job: &SheetJob) -> Breakable
+    requires { Packable job.now.steps job.now.rules job.now.rule_level job.now.rule_limit job.now.rule_scope × (length job.now.rule_kind ≡ 64) }
+    ensures { PackedRules job.now.steps job.now.rules job.now.rule_kind job.now.rule_level job.now.rule_limit job.now.rule_scope result.rule result.count }
 {
     let mut rule = [0u32; MOST_RULES];
     let mut count = 0;
-    for i in 0..rules {
-        if can_break(kind[i], limit[i], scope[i], steps) {
-            rule[count] = packed_rule(kind[i], level[i], limit[i], scope[i], steps);
+    for i in 0..job.rules {
+        let kind = RuleKind::from(job.rule_kind[i]);
+        let limit = job.rule_limit[i];
+        let scope = job.rule_scope[i];
+        if can_break(kind, limit, scope, job.steps) {
+            rule[count] = packed_rule(kind, job.rule_level[i], limit, scope, job.steps);
             count += 1;
         }
     }
@@ -248,25 +233,17 @@ fn packed<'a>(
 }
 
 // Poses a readable job to the search, without the rules that no plan breaks and the levels that no other names.
-pub fn pose(job: SheetJob, people: usize, steps: usize, rules: usize) -> Tables
-    requires { ReadableJob people steps rules job }
-    ensures { Poses people steps rules job result }
+pub fn pose(job: &SheetJob) -> Tables
+    requires { ReadableJob job.now.people job.now.steps job.now.rules job.now }
+    ensures { Poses job.now.people job.now.steps job.now.rules job.now result }
 {
-    let class = classes(&job.class, job.levels, people);
-    let asked = packed(
-        &job.rule_kind,
-        &job.rule_level,
-        &job.rule_limit,
-        &job.rule_scope,
-        steps,
-        rules,
-    );
-    let rule = asked.rule;
+    let class = classes(&job.class, job.levels, job.people);
+    let asked = packed(job);
     let size = Size {
-        steps: steps,
-        people: people,
+        steps: job.steps,
+        people: job.people,
         levels: job.levels,
         rules: asked.count,
     };
-    keep(size, &class, &rule)
+    keep(size, &class, &asked.rule)
 }
