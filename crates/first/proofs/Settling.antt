@@ -1,6 +1,6 @@
 -- The first plan in arrays: what a person tried at a step, in whom a plan is found or not, does to the masks and the plan. Assumes
 -- nothing.
-use mathlib.Core.Bool.{Bool, true, false, ◌&&◌}
+use mathlib.Core.Bool.{Bool, true, ◌&&◌}
 use mathlib.Core.List.{List}
 use mathlib.Core.Path.{◌≡◌, refl, sym, subst, ap, ◌∙◌}
 use Prim.Native.Nat.{ℕ, ◌+◌, ◌*◌, ◌%◌, ◌^◌, ◌≤◌, ◌<◌}
@@ -19,10 +19,13 @@ use Rattle.bits.proofs.Counting.{and_of}
 use Rattle.bits.proofs.Masks.{taken_was}
 use Rattle.bits.proofs.SetLaws.{zero_empty, mod-bit, removed_other}
 use Rattle.workflow.specs.Problem.{Job, May, Plan, Valid}
-use Rattle.workflow.specs.First.{first_plan, found_as}
+use Rattle.std.specs.Prelude.{None, Some}
+use Rattle.workflow.specs.First.{nothing, first_plan, found_as}
 use Rattle.workflow.proofs.First.{no_valid_plan}
 use Rattle.pattern.specs.Tables.{may_in, plan_in}
 use Rattle.backtrack.proofs.Extending.{own_bit}
+use Rattle.levels.specs.declared.Tables.{Tables}
+use Rattle.levels.specs.Tabled.{tabled_job, Ready}
 use Rattle.search.specs.Existence.{Existence}
 use Rattle.first.specs.Settle.{Standing, Settled}
 use Rattle.first.proofs.Narrow.{Narrowed, narrowed_valid, other_standing, fixed_standing, fixed_first, standing_first}
@@ -53,9 +56,8 @@ standing_person {j} {may} {s} plan w l few = omega (arith, w.valid.within s l)
 
 -- the people of `left` are still to be tried at step s: nobody else before the one in hand does it in a valid plan. Only the mask of s has
 -- changed
-pub record Looking (j : Job) (s : ℕ) (may may' plan plan' : List ℕ) (left : ℕ) : Type 0 where
+pub record Looking (j : Job) (s : ℕ) (may may' plan : List ℕ) (left : ℕ) : Type 0 where
   pub masks : length may' ≡ 12
-  pub same : plan' ≡ plan
   pub others : (t : ℕ) → (t ≡ s → ⊥) → (p : ℕ) → may_in may' t p ≡ may_in may t p
   pub part : (p : ℕ) → has_bit left p ≡ true → (p < plan_in plan s) × (may_in may s p ≡ true)
   pub all : (σ : Plan) → Valid j (may_in may) σ → σ s < plan_in plan s → has_bit left (σ s) ≡ true
@@ -68,6 +70,12 @@ pub record InHand (j : Job) (s : ℕ) (may plan : List ℕ) : Type 0 where
   pub below : s < j.steps
   pub few : j.steps ≤ 12
   pub people : j.people ≤ 64
+
+pub in_hand : (t : Tables) {s : ℕ} {may plan : List ℕ} → Ready t → length may ≡ 12 → length plan ≡ 12 → s < t.size.steps
+    → Standing (tabled_job t) (may_in may) s (plan_in plan) → InHand (tabled_job t) s may plan
+in_hand t ready masks sized below standing =
+    let given = ready.tabled.given in
+    record { standing = standing; masks = masks; sized = sized; below = below; few = given.ruled.few_steps; people = given.few_people }
 
 module _ {j : Job} {s : ℕ} {may plan : List ℕ} (hand : InHand j s may plan) where
   standing : Standing j (may_in may) s (plan_in plan)
@@ -85,11 +93,10 @@ module _ {j : Job} {s : ℕ} {may plan : List ℕ} (hand : InHand j s may plan) 
   pub person : plan_in plan s < 64
   person = standing_person plan standing below people
 
-  pub looking_start : Looking j s may may plan plan (get_or may s 0 % (1 * 2 ^ plan_in plan s % 18446744073709551616))
+  pub looking_start : Looking j s may may plan (get_or may s 0 % (1 * 2 ^ plan_in plan s % 18446744073709551616))
   looking_start =
       record {
         masks = hand.masks;
-        same = refl;
         others = λ t n p. refl;
         part = λ p h.
             let e : ltb p (plan_in plan s) && may_in may s p ≡ true = sym (before_bit (get_or may s 0) (plan_in plan s) person p) ∙ h in
@@ -115,16 +122,14 @@ module _ {j : Job} {s : ℕ} {may plan : List ℕ} (hand : InHand j s may plan) 
         first = fixed_first j (may_in may) (may_in (set may' s y)) s (plan_in plan') w below none n;
       }
 
-  module _ {may' plan' : List ℕ} {left : ℕ} (look : Looking j s may may' plan plan' left) where
+  module _ {may' : List ℕ} {left : ℕ} (look : Looking j s may may' plan left) where
     -- nobody is left: the person in hand is the first
-    pub settled_none : left ≡ 0 → Settled j (s + 1) may (set may' s (1 * 2 ^ plan_in plan s % 18446744073709551616)) plan'
+    pub settled_none : left ≡ 0 → Settled j (s + 1) may (set may' s (1 * 2 ^ plan_in plan s % 18446744073709551616)) plan
     settled_none e =
-        subst (λ (x : List ℕ). Settled j (s + 1) may (set may' s (1 * 2 ^ plan_in plan s % 18446744073709551616)) x) (sym look.same)
-        (settled_at may' plan look.masks hand.sized look.others standing (λ σ v l. true-false (look.all σ v l) (zero_empty left e (σ s))))
+        settled_at may' plan look.masks hand.sized look.others standing (λ σ v l. true-false (look.all σ v l) (zero_empty left e (σ s)))
 
     -- the lowest of those left is tried
-    module _ {q rest : ℕ} (small : q < 64) (next : FirstAndRest left q rest) {plan'' : List ℕ} {r : Bool}
-        (x : Existence j (may_in (set may' s (1 * 2 ^ q % 18446744073709551616))) plan' plan'' r) where
+    module _ {q rest : ℕ} (small : q < 64) (next : FirstAndRest left q rest) where
       abbrev pin : List ℕ
       pin = set may' s (1 * 2 ^ q % 18446744073709551616)
 
@@ -134,29 +139,28 @@ module _ {j : Job} {s : ℕ} {may plan : List ℕ} (hand : InHand j s may plan) 
       permitted : (p : ℕ) → eqb p q ≡ true → may_in may s p ≡ true
       permitted p h = subst (λ (k : ℕ). may_in may s k ≡ true) (sym (eqb-true p q h)) (look.part q next.lowest.has).1
 
-      pub settled_found : r ≡ true → Settled j (s + 1) may pin plan''
-      settled_found e =
+      pub settled_found : {plan'' : List ℕ} → Existence j (may_in pin) (Some plan'') → Settled j (s + 1) may pin plan''
+      settled_found {plan''} (sized, valid) =
           subst (λ (k : ℕ). Settled j (s + 1) may (set may' s (1 * 2 ^ k % 18446744073709551616)) plan'') at
-          (settled_at may' plan'' look.masks x.sized look.others
-          (other_standing j (may_in may) (may_in pin) s (plan_in plan) standing below (λ p. eqb p q) pinned permitted (plan_in plan'') (x.won e))
+          (settled_at may' plan'' look.masks sized look.others
+          (other_standing j (may_in may) (may_in pin) s (plan_in plan) standing below (λ p. eqb p q) pinned permitted (plan_in plan'') valid)
           (λ σ v l.
           let a : σ s < q = subst (λ (k : ℕ). σ s < k) at l in
           let b : q < plan_in plan s = (look.part q next.lowest.has).0 in
           true-false (look.all σ v (omega arith)) (next.lowest.before (σ s) a)))
         where
           at : plan_in plan'' s ≡ q
-          at = eqb-true (plan_in plan'' s) q (sym (pinned.own (plan_in plan'' s)) ∙ (x.won e).authorised s below)
+          at = eqb-true (plan_in plan'' s) q (sym (pinned.own (plan_in plan'' s)) ∙ valid.authorised s below)
 
-      pub looking_next : r ≡ false → Looking j s may pin plan plan'' rest
-      looking_next e =
+      pub looking_next : Existence j (may_in pin) None → Looking j s may pin plan rest
+      looking_next lost =
           record {
             masks = length-set may' s _ ∙ look.masks;
-            same = x.kept e ∙ look.same;
             others = pinned.others;
             part = λ p h. look.part p (taken_was next p h);
             all = λ σ v l.
                 by_cases (eqb (σ s) q)
-                (λ t. absurd (x.lost e (σ, narrowed_valid j (may_in may) (may_in pin) s (λ p. eqb p q) pinned σ v t)))
+                (λ t. absurd (lost (σ, narrowed_valid j (may_in may) (may_in pin) s (λ p. eqb p q) pinned σ v t)))
                 (λ t. removed_other next.removed (σ s) (eqb-false (σ s) q t) ∙ look.all σ v l);
           }
 
@@ -179,6 +183,5 @@ settled-all {j} {s} {may} {now} {plan} w l =
 pub first_standing : {j : Job} {may : May} (plan : List ℕ) → Valid j may (plan_in plan) → Standing j may 0 (plan_in plan)
 first_standing plan v = record { valid = v; fixed = λ t p l h. absurd (omega arith) }
 
-pub first_none : {j : Job} (may : List ℕ) {plan plan' : List ℕ} {r : Bool} → Existence j (may_in may) plan plan' r → r ≡ false
-    → first_plan j (may_in may) ≡ found_as j.steps false plan'
-first_none {j} may x e = no_valid_plan j (may_in may) (λ π v. x.lost e (π, v))
+pub first_none : {j : Job} (may : List ℕ) → Existence j (may_in may) None → first_plan j (may_in may) ≡ nothing
+first_none {j} may lost = no_valid_plan j (may_in may) (λ π v. lost (π, v))
