@@ -1,30 +1,20 @@
--- `instance::figure::rule_figure` meets its contract: a kind looks at the count or at the largest load. Assumes nothing.
-use mathlib.Core.Path.{sym, ◌∙◌}
+-- `instance::figure::rule_figure` meets its contract: the kind that limits the load looks at the largest load. Assumes nothing.
+use mathlib.Core.Path.{◌∙◌, ap}
 use native.Mathlib.Omega.{arith}
 use Prim.Native.Nat.{ℕ}
+use lib.ListN.{get_or}
 use Rattle.bits.specs.Word.{has_bit}
 use Rattle.workflow.specs.First.{plan_of}
-use Rattle.workflow.specs.Problem.{distinct, largest_load}
+use Rattle.workflow.specs.Problem.{Kind, figure_of}
 use Rattle.workflow.proofs.Loads.{largest_load_few}
 use Rattle.instance.specs.Instance.{class_at}
-use Rattle.instance.proofs.Figured.{looks_at_load, looks_at_count}
 use Rattle.instance.proofs.figure.rule_figure.Goals as goal
-use Rattle.instance.proofs.figure.rule_figure.Goals.{Start}
 
--- the class of each step's person
-abbrev classes : Start → ℕ → ℕ
-classes c t = let a = c.args in class_at a.levels a.class.now a.level (plan_of a.plan.now t)
-
-pub returns-then-kind-gt4 : goal.returns-then-kind-gt4
-returns-then-kind-gt4 c =
-    let k = c.if-kind-gt4.true in (
-      omega (arith, c.rule_load.ensures 12 c.requires.1, largest_load_few 12 (has_bit c.args.scope) (λ t. classes c.before.before t)),
-      λ n b. c.rule_load.ensures n b ∙ sym (looks_at_load c.args.kind (distinct n (has_bit c.args.scope) (classes c.before.before)) _ (omega (arith, k))),
-    )
-
-pub returns : goal.returns
-returns c =
-    let k = c.if-kind-gt4.false in (
-      c.rule_count.ensures.0,
-      λ n b. c.rule_count.ensures.1 n b ∙ sym (looks_at_count c.args.kind _ (largest_load n (has_bit c.args.scope) (classes c.before.before)) (omega (arith, k))),
+pub returns-in-MaxLoad : goal.returns-in-MaxLoad
+returns-in-MaxLoad c =
+    let j = c.args.job.now in
+    let scope : ℕ = get_or j.rule_scope c.args.i 0 in
+    let classes : ℕ → ℕ = λ t. class_at j.levels j.class (get_or j.rule_level c.args.i 0) (plan_of c.args.plan.now t) in (
+      omega (arith, c.rule_load.ensures 12 c.requires.2, largest_load_few 12 (has_bit scope) classes),
+      λ n b. c.rule_load.ensures n b ∙ ap (λ (k : Kind). figure_of k n (has_bit scope) classes) c.in-MaxLoad.ensures,
     )
