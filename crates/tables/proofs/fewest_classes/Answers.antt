@@ -2,7 +2,6 @@
 use mathlib.Core.Path.{refl, sym, ap, ◌∙◌}
 use Prim.Native.Nat.{ℕ, ◌+◌, ◌-◌, ◌/◌}
 use native.Mathlib.Nat.{div-zero}
-use native.Mathlib.Omega.{arith}
 use Rattle.workflow.specs.Problem.{fewest}
 use Rattle.tables.proofs.fewest_classes.Goals as goal
 
@@ -11,15 +10,6 @@ unfolding fewest
 returns-then-load-eq0 c =
     let a = c.args in
     sym (ap (λ (x : ℕ). (a.size + (x - 1)) / x) c.if-load-eq0.true ∙ div-zero (a.size + (0 - 1)))
-
-pub overflow_sub-result : goal.overflow_sub-result
-overflow_sub-result c = let d = c.if-load-eq0.false in omega arith
-
-pub overflow_add-result : goal.overflow_add-result
-overflow_add-result c = record { fits = omega (arith, c.requires.0, c.requires.1) }
-
-pub nonzero_div-result : goal.nonzero_div-result
-nonzero_div-result c = let d = c.if-load-eq0.false in omega arith
 
 pub returns : goal.returns
 unfolding fewest

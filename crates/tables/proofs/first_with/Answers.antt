@@ -1,34 +1,15 @@
 -- The invariant: none of the people passed has the word. Assumes nothing.
-use native.Mathlib.Omega.{arith}
 use borrow.Author.Tests.{eq-eqb, ne_eqb}
 use Rattle.bits.proofs.Scan.{passed_none, passed_more, passed_found, passed_all}
 use Rattle.pattern.specs.Number.{first_use}
 use Rattle.tables.proofs.first_with.Goals as goal
 
-pub offset_bounds-words-p : goal.offset_bounds-words-p
-offset_bounds-words-p c = omega arith
-
-pub bounds-words-p : goal.bounds-words-p
-bounds-words-p c = omega arith
-
 pub loop-q-init : goal.loop-q-init
 loop-q-init c = passed_none _ _
-
-pub offset_bounds-words-q : goal.offset_bounds-words-q
-offset_bounds-words-q c = omega arith
-
-pub bounds-words-q : goal.bounds-words-q
-bounds-words-q c = omega arith
 
 pub returns-then-words-q : goal.returns-then-words-q
 unfolding first_use
 returns-then-words-q c = passed_found _ _ _ c.loop-q.invariant c.loop-q-test.true (eq-eqb _ _ c.if-words-q.true)
-
-pub overflow_add-q : goal.overflow_add-q
-overflow_add-q c = omega arith
-
-pub loop-q-smaller : goal.loop-q-smaller
-loop-q-smaller c = omega arith
 
 pub loop-q-preserved : goal.loop-q-preserved
 loop-q-preserved c = passed_more _ _ _ c.loop-q.invariant c.loop-q-test.true (ne_eqb _ _ c.if-words-q.false)

@@ -1,4 +1,3 @@
-use Prim.Native.Nat.{◌-◌}
 use lib.Dec.{eqb}
 use lib.ListN.{get_or}
 use Rattle.bits.proofs.Scan.{Passed}
@@ -6,6 +5,3 @@ use Rattle.tables.proofs.first_with.Given as goal
 
 abbrev pub invariant-loop-q : goal.invariant-loop-q
 invariant-loop-q l = Passed l.people (λ i. eqb (get_or l.words i 0) (get_or l.words l.p 0)) l.q
-
-abbrev pub decreases-loop-q : goal.decreases-loop-q
-decreases-loop-q l = l.people - l.q
