@@ -1,6 +1,6 @@
 -- A valid plan gives an assignment for each limit on the load: a step has the place of its class whose number is how many steps of the class
 -- come before it. Assumes nothing.
-use mathlib.Core.Bool.{Bool, true, false, not, ◌&&◌}
+use mathlib.Core.Bool.{Bool, true, not, ◌&&◌}
 use mathlib.Core.List.{List}
 use mathlib.Core.Path.{◌≡◌, refl, sym, subst, ap, ◌∙◌}
 use Prim.Native.Nat.{ℕ, zero, suc, ◌+◌, ◌*◌, ◌/◌, ◌%◌, ◌^◌, ◌≤◌, ◌<◌}
@@ -23,7 +23,7 @@ use Rattle.workflow.proofs.Loads.{load_le_largest}
 use Rattle.matching.specs.Assignment.{Assignment, Covers, in_mask, suits}
 use Rattle.relax.proofs.Bounding.{count_before}
 use Rattle.search.specs.Limits.{Gathering, Manned}
-use Rattle.search.specs.Loads.{Repeated, Places, KeepsLoad, KeepsLoadOf, Loads}
+use Rattle.search.specs.Loads.{Repeated, Places, KeepsLoad, Loads}
 use Rattle.search.proofs.LowerLimits.{or_has_left, or_has_right}
 use Rattle.search.proofs.Unmet.{assignment_of, Unmet}
 
@@ -169,13 +169,6 @@ module _ (steps : ℕ) (reach : List ℕ) (q scope load : ℕ) where
 -- ---- the rules
 
 module _ {steps rules : ℕ} {rule reach : List ℕ} where
-  pub loads_heavy : (i : ℕ) (r : Bool) → i < rules → KeepsLoadOf steps reach (get_or rule i 0) r → not r ≡ true → Loads steps rules rule reach false
-  loads_heavy i r l w f =
-      record { overloaded = λ _. record { which = i; below = l; heavy = record { heavy = λ e. w.heavy (not-true r f) } } }
-
-  pub loads_passed : Loads steps rules rule reach true
-  loads_passed = record { overloaded = λ e. true-false refl e }
-
   pub loads_unmet : (r : Bool) → Loads steps rules rule reach r → not r ≡ true → Unmet steps rules rule reach
   loads_unmet r w f =
       let u = w.overloaded (not-true r f) in

@@ -1,6 +1,7 @@
 pub mod Growth
 pub mod Node
 pub mod Turn
+pub mod Mapped
 pub mod Meeting
 pub mod Staff
 pub mod Ends

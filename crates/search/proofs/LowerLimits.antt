@@ -309,13 +309,6 @@ module _ (steps : ℕ) (few : steps ≤ 12) (reach : List ℕ) (r : ℕ) (small 
 -- ---- the rules
 
 module _ {steps rules : ℕ} {rule reach : List ℕ} where
-  pub limits_short : (i : ℕ) (r : Bool) → i < rules → ReachesLeast steps reach (get_or rule i 0) r → not r ≡ true → Limits steps rules rule reach false
-  limits_short i r l w f =
-      record { unreached = λ _. record { which = i; below = l; short = record { short = λ e. w.short (not-true r f) } } }
-
-  pub limits_passed : Limits steps rules rule reach true
-  limits_passed = record { unreached = λ e. true-false refl e }
-
   pub limits_unmet : (r : Bool) → Limits steps rules rule reach r → not r ≡ true → Unmet steps rules rule reach
   limits_unmet r w f =
       let u = w.unreached (not-true r f) in

@@ -31,7 +31,7 @@ use Rattle.pattern.proofs.Nested.{nested_last, nested_refining}
 use Rattle.realize.specs.Parts.{ArraysSized, Offers, TablesFor}
 use Rattle.realize.specs.Decision.{Realizable}
 use Rattle.pattern.specs.Given.{Ruled, Nest}
-use Rattle.search.specs.Growth.{Placeable, Grows, Joins}
+use Rattle.search.specs.Growth.{Grows, Joins}
 use Rattle.search.specs.State.{Patterned, Passing, Touched, OthersPossible, LabelsKept, partner, depth, ByWay, Growable, Grew}
 
 -- a job of these counts and rules, whatever its classes
@@ -145,9 +145,6 @@ module _ {j : Job} {placed next s w : ℕ} {label : List ℕ} (g : Growable j pl
   pub joinable : (partner w < 12) × (depth w ≤ most_levels) × (length label ≡ label_entries)
   joinable = (omega arith, omega (arith, g.way), g.patterned.sized)
 
-  pub meetable : (reach : List ℕ) → j.steps ≤ 12 → length reach ≡ label_entries → (depth w ≤ most_levels) × (s < 12) × (partner w < 12) × (length reach ≡ label_entries)
-  meetable reach most e = (omega (arith, g.way), omega (arith, g.below), omega arith, e)
-
 module _ {j : Job} {placed next s w : ℕ} {label : List ℕ} (g : Growable j placed next s w label) (may : May) (few : j.steps ≤ 12) where
   -- no valid plan goes by the way, and nothing is placed
   pub grew_not : (Joins placed label (partner w) (depth w) → ByWay j may placed label s w → ⊥) → Grew j may placed next s w label label false
@@ -166,15 +163,6 @@ module _ {j : Job} {placed next s w : ℕ} {label : List ℕ} (g : Growable j pl
   grew_unjoined r says f = grew_not (λ x y. says_false r (Joins placed label (partner w) (depth w)) says (not-true r f) x)
 
   module _ (joined : Joins placed label (partner w) (depth w)) where
-    pub placeable : j.levels ≤ most_levels → Placeable j.levels s (partner w) label
-    placeable l =
-        record {
-          few = l;
-          new = omega (arith, g.below);
-          old = omega arith;
-          sized = g.patterned.sized;
-        }
-
     way : Way j.steps j.levels (has_bit placed) (partner w) (depth w)
     way = record { depth = omega (arith, g.way); below = λ h. g.patterned.inside (partner w) (joined.among h); among = joined.among }
 

@@ -1,8 +1,8 @@
 -- A valid plan gives an assignment for two limits on the load at nested levels: a class of the coarser level holds as many steps as the
 -- classes of the finer level inside it hold together. Assumes nothing.
-use mathlib.Core.Bool.{Bool, true, false, not, ◌&&◌}
+use mathlib.Core.Bool.{Bool, true, not, ◌&&◌}
 use mathlib.Core.List.{List}
-use Rattle.std.specs.Prelude.{None}
+use Rattle.std.specs.Prelude.{None, length}
 use mathlib.Core.Path.{◌≡◌, refl, sym, subst, ◌∙◌}
 use Prim.Native.Nat.{ℕ, zero, suc, ◌+◌, ◌*◌, ◌-◌, ◌/◌, ◌%◌, ◌^◌, ◌≤◌, ◌<◌}
 use native.Mathlib.Omega.{arith}
@@ -32,7 +32,7 @@ use Rattle.realize.specs.Parts.{Offers}
 use Rattle.search.specs.Existence.{Existence}
 use Rattle.search.specs.Limits.{Gathering, Manned}
 use Rattle.search.specs.Loads.{Places}
-use Rattle.search.specs.PairedLoads.{Inside, Room, Kept, Together, KeepsBoth, KeepsBothOf, Partners, OverloadedPair, Pairs}
+use Rattle.search.specs.PairedLoads.{Inside, Room, Kept, Together, KeepsBoth, KeepsBothOf, OverloadedPair, Pairs}
 use Rattle.search.proofs.GreatestLoads.{place_apart, class_below, placing, seated}
 use Rattle.search.proofs.Unmet.{manned}
 
@@ -112,22 +112,9 @@ module _ (within : List ℕ) (all load width : ℕ) where
 -- ---- the places kept
 
 module _ (edges : List ℕ) (room : ℕ) where
-  pub kept_none : Kept 0 edges room (replicate {A = ℕ} 12 0)
-  kept_none = record { sized = length-replicate {A = ℕ} 12 0; has = λ s x l. absurd (not-suc-le-zero l) }
-
-  pub kept_more : (n : ℕ) (kept : List ℕ) → n < 12 → Kept n edges room kept → Kept (n + 1) edges room (set kept n (bit_and (get_or edges n 0) room))
-  kept_more n kept l w =
-      record {
-        sized = length-set kept n row ∙ w.sized;
-        has = λ s x m h i.
-            by_cases (eqb s n)
-            (λ e. rw (eqb-true s n e, get_or-set_same kept n row 0 (omega (arith, w.sized)))
-            (and-bit (get_or edges n 0) room x ∙ and_of _ _ (subst (λ (y : ℕ). has_bit (get_or edges y 0) x ≡ true) (eqb-true s n e) h) i))
-            (λ e. let d : s ≡ n → ⊥ = eqb-false s n e in rw (get_or-set_other kept n s row 0 d) (w.has s x (omega arith) h i));
-      }
-    where
-      row : ℕ
-      row = bit_and (get_or edges n 0) room
+  pub kept_each : (kept : List ℕ) → length kept ≡ 12 → ((s : ℕ) → s < 12 → get_or kept s 0 ≡ bit_and (get_or edges s 0) room) → Kept 12 edges room kept
+  kept_each kept e each =
+      record { sized = e; has = λ s x l h i. rw (each s l) (and-bit (get_or edges s 0) room x ∙ and_of _ _ h i) }
 
   pub kept_all : (steps n : ℕ) (kept : List ℕ) → steps ≤ n → Kept n edges room kept → Kept steps edges room kept
   kept_all steps n kept l w = record { sized = w.sized; has = λ s x b. w.has s x (omega arith) }
@@ -212,24 +199,6 @@ module _ (steps people : ℕ) (class reach : List ℕ) (r t : ℕ) where
 -- the steps that two rules name are steps
 pub both_small : (steps a b : ℕ) → a < 2 ^ steps → bit_and a b < 2 ^ steps
 both_small steps a b l = bits_below steps (bit_and a b) (λ j h. has_below steps a j l (and-bit_left a b j h))
-
--- ---- the rules
-
-module _ {steps people rules : ℕ} {class rule reach : List ℕ} where
-  pub partners_heavy : (r i : ℕ) (b : Bool) → i < rules → KeepsBothOf steps people class reach r (get_or rule i 0) b → not b ≡ true
-      → Partners steps people rules class rule reach r false
-  partners_heavy r i b l w f =
-      record { partner = λ _. record { which = i; below = l; heavy = record { heavy = λ e. w.heavy (not-true b f) } } }
-
-  pub partners_passed : (r : ℕ) → Partners steps people rules class rule reach r true
-  partners_passed r = record { partner = λ e. true-false refl e }
-
-  pub pairs_heavy : (i : ℕ) (b : Bool) → i < rules → Partners steps people rules class rule reach (get_or rule i 0) b → not b ≡ true
-      → Pairs steps people rules class rule reach false
-  pairs_heavy i b l w f = record { overloaded = λ _. record { which = i; below = l; partner = w.partner (not-true b f) } }
-
-  pub pairs_passed : Pairs steps people rules class rule reach true
-  pairs_passed = record { overloaded = λ e. true-false refl e }
 
 -- ---- no plan
 

@@ -14,6 +14,7 @@ mod pairs;
 mod patterns;
 mod place;
 mod refute;
+mod rules;
 mod setting;
 mod ways;
 pub mod weights;

@@ -8,6 +8,7 @@ ghost use Rattle.pattern.specs.Given.{Ruled};
 ghost use Rattle.pattern.specs.Rule.{level_in, least_in, scope_in};
 ghost use Rattle.search.specs.Limits.{Gathering, Extras, Edges, ReachesLeast, Limits};
 
+use super::rules::every;
 use bits::set::{ALL, Set, members};
 use bits::sizes::{MOST_STEPS, Reach, Rules};
 use matching::assign;
@@ -75,15 +76,7 @@ pub fn limits_reached(size: Size, rule: &Rules, reach: &Reach) -> bool
     requires { Ruled size rule.now × (length reach.now ≡ label_entries) }
     ensures { Limits size.steps size.rules rule.now reach.now result }
 {
-    let rules = size.rules;
-    for i in 0..rules {
-        let r = rule[i];
-        if rule::least(r) < 3 {
-            continue;
-        }
-        if !reaches_least(size.steps, reach, r) {
-            return false;
-        }
-    }
-    true
+    every(size, rule, |r| {
+        rule::least(r) < 3 || reaches_least(size.steps, reach, r)
+    })
 }

@@ -7,6 +7,7 @@ ghost use Rattle.pattern.specs.Rule.{level_in, scope_in};
 ghost use Rattle.search.specs.Loads.{Repeated, Places, KeepsLoadOf, Loads};
 
 use super::limits::classes_of;
+use super::rules::every;
 use bits::set::Set;
 use bits::sizes::{MOST_STEPS, Reach, Rules};
 use matching::assign;
@@ -72,15 +73,7 @@ pub fn loads_fit(size: Size, rule: &Rules, reach: &Reach) -> bool
     requires { Ruled size rule.now × (length reach.now ≡ label_entries) }
     ensures { Loads size.steps size.rules rule.now reach.now result }
 {
-    let rules = size.rules;
-    for i in 0..rules {
-        let r = rule[i];
-        if !rule::limits_load(r) {
-            continue;
-        }
-        if !keeps_load(size.steps, reach, r) {
-            return false;
-        }
-    }
-    true
+    every(size, rule, |r| {
+        !rule::limits_load(r) || keeps_load(size.steps, reach, r)
+    })
 }

@@ -27,12 +27,7 @@ fn excludes_some(rules: usize, rule: &Rules, i: usize) -> bool
     requires { (rules ≤ 64) × (length rule.now ≡ 64) × (i < rules) }
     ensures { result ≡ true → OpposedFor rules rule.now }
 {
-    for k in 0..rules {
-        if excludes(rule, i, k) {
-            return true;
-        }
-    }
-    false
+    (0..rules).any(|k| excludes(rule, i, k))
 }
 
 // Whether two rules exclude each other.
@@ -40,10 +35,5 @@ pub fn opposed(rules: usize, rule: &Rules) -> bool
     requires { (rules ≤ 64) × (length rule.now ≡ 64) }
     ensures { result ≡ true → OpposedFor rules rule.now }
 {
-    for i in 0..rules {
-        if excludes_some(rules, rule, i) {
-            return true;
-        }
-    }
-    false
+    (0..rules).any(|i| excludes_some(rules, rule, i))
 }

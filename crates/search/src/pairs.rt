@@ -8,9 +8,10 @@ ghost use Rattle.search.specs.PairedLoads.{Inside, Room, Kept, KeepsBothOf, Part
 
 use super::limits::classes_of;
 use super::loads::{PLACES, places_of};
+use super::rules::every;
 use bits::set::Set;
 use bits::sizes::{Classes, MOST_PEOPLE, MOST_STEPS, Reach, Rules};
-use matching::assign;
+use matching::{Edges, assign};
 use pattern::{Size, rule};
 
 // The classes of level `fine` + 1 inside each class of level `coarse` + 1.
@@ -43,15 +44,11 @@ fn room_of(within: &[u64; MOST_PEOPLE], all: u64, load: usize, width: usize) -> 
 }
 
 // The places of each step that are in the room.
-fn kept_to(steps: usize, edges: &[u64; MOST_STEPS], room: u64) -> [u64; MOST_STEPS]
-    requires { (steps ≤ 12) × (length edges.now ≡ 12) }
-    ensures { Kept steps edges.now room result }
+fn kept_to(edges: &Edges, room: u64) -> Edges
+    requires { length edges.now ≡ 12 }
+    ensures { Kept 12 edges.now room result }
 {
-    let mut kept = [0u64; MOST_STEPS];
-    for s in 0..steps {
-        kept[s] = edges[s] & room;
-    }
-    kept
+    edges.map(|places| places & room)
 }
 
 // Whether the steps that two rules name can be given places in the classes of the first one's level. Where the number of a
@@ -78,7 +75,7 @@ fn keeps_both(size: Size, class: &Classes, reach: &Reach, r: u32, t: u32) -> boo
     let finer = classes_of(size.steps, reach, fine, scope);
     let room = room_of(&within, finer, rule::load(t), width);
     let edges = places_of(size.steps, reach, q, width, load);
-    let kept = kept_to(size.steps, &edges, room);
+    let kept = kept_to(&edges, room);
     assign(&kept, scope).is_some()
 }
 
@@ -95,20 +92,11 @@ fn partners_fit(size: Size, class: &Classes, rule: &Rules, reach: &Reach, r: u32
         × (1 ≤ level_in r) × (level_in r ≤ most_levels) × (scope_in r < 2 ^ size.steps) }
     ensures { Partners size.steps size.people size.rules class.now rule.now reach.now r result }
 {
-    let rules = size.rules;
-    for i in 0..rules {
-        let t = rule[i];
-        if rule::level(t) <= rule::level(r) {
-            continue;
-        }
-        if !both_limit(r, t) {
-            continue;
-        }
-        if !keeps_both(size, class, reach, r, t) {
-            return false;
-        }
-    }
-    true
+    every(size, rule, |t| {
+        rule::level(t) <= rule::level(r)
+            || !both_limit(r, t)
+            || keeps_both(size, class, reach, r, t)
+    })
 }
 
 // Whether any two greatest loads can be kept to together.
@@ -116,15 +104,7 @@ pub fn pairs_fit(size: Size, class: &Classes, rule: &Rules, reach: &Reach) -> bo
     requires { Ruled size rule.now × (size.people ≤ 64) × (length class.now ≡ class_entries) × (length reach.now ≡ label_entries) }
     ensures { Pairs size.steps size.people size.rules class.now rule.now reach.now result }
 {
-    let rules = size.rules;
-    for i in 0..rules {
-        let r = rule[i];
-        if !rule::limits_load(r) {
-            continue;
-        }
-        if !partners_fit(size, class, rule, reach, r) {
-            return false;
-        }
-    }
-    true
+    every(size, rule, |r| {
+        !rule::limits_load(r) || partners_fit(size, class, rule, reach, r)
+    })
 }

@@ -1,7 +1,7 @@
 // The weights that bring a step to the front of the search. No promise rests on them.
 ghost use Rattle.std.specs.Prelude.{◌≡◌, ◌<◌, ◌≤◌, length};
 
-use bits::sizes::{MOST_STEPS, Naming, Weights};
+use bits::sizes::{Naming, Weights};
 
 // What a failed search adds to the weight of its step, and how far weights grow.
 const BLAME: u32 = 4;
@@ -9,15 +9,11 @@ const BLAME: u32 = 4;
 const HEAVIEST: u32 = 1000000;
 
 // The weights to begin with: how many rules name each step.
-pub fn weights(of: &Naming) -> [u32; MOST_STEPS]
+pub fn weights(of: &Naming) -> Weights
     requires { length of.now ≡ 12 }
     ensures { length result ≡ 12 }
 {
-    let mut weight = [0u32; MOST_STEPS];
-    for s in 0..MOST_STEPS {
-        weight[s] = u64::count_ones(of[s]);
-    }
-    weight
+    of.map(|rules| u64::count_ones(rules))
 }
 
 // A search that placed step `s` next has failed.

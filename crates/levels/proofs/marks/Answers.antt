@@ -6,24 +6,6 @@ use Rattle.levels.proofs.marks.Goals as goal
 pub loop-i-init : goal.loop-i-init
 loop-i-init c = (omega arith, λ i l. absurd (omega arith))
 
-pub offset_bounds-rule-i : goal.offset_bounds-rule-i
-offset_bounds-rule-i c = omega arith
-
-pub bounds-rule-i : goal.bounds-rule-i
-bounds-rule-i c = omega (arith, c.requires.0)
-
-pub level-requires : goal.level-requires
-level-requires c = tt
-
-pub with-all-requires : goal.with-all-requires
-with-all-requires c = c.level.ensures.1
-
-pub overflow_step-i : goal.overflow_step-i
-overflow_step-i c = omega arith
-
-pub loop-i-smaller : goal.loop-i-smaller
-loop-i-smaller c = omega arith
-
 pub loop-i-preserved : goal.loop-i-preserved
 loop-i-preserved c =
     let v = c.level in

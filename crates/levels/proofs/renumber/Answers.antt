@@ -10,43 +10,10 @@ use Rattle.levels.proofs.renumber.Goals as goal
 pub loop-i-init : goal.loop-i-init
 loop-i-init c = (omega arith, record { sized = refl; each = λ i l. absurd (omega arith) })
 
-pub offset_bounds-rule-i : goal.offset_bounds-rule-i
-offset_bounds-rule-i c = omega (arith, c.requires.0.few_rules)
-
-pub bounds-rule-i : goal.bounds-rule-i
-bounds-rule-i c = omega (arith, c.requires.0.few_rules)
-
-pub level-q-requires : goal.level-q-requires
-level-q-requires c = tt
-
-pub offset_bounds-rule-i-in-loop-i : goal.offset_bounds-rule-i-in-loop-i
-offset_bounds-rule-i-in-loop-i c = omega (arith, c.requires.0.few_rules)
-
-pub bounds-rule-i-in-loop-i : goal.bounds-rule-i-in-loop-i
-bounds-rule-i-in-loop-i c = omega (arith, c.requires.0.few_rules)
-
 pub bounds-new-q : goal.bounds-new-q
 bounds-new-q c =
     let p = c.requires.0 in
     omega (arith, c.level-q.ensures.0, (p.rule_ok c.loop-i.i c.loop-i-test.true).to, p.few_levels)
-
-pub overflow_cast-new : goal.overflow_cast-new
-overflow_cast-new c = omega arith
-
-pub moved-requires : goal.moved-requires
-moved-requires c = omega arith
-
-pub offset_bounds-kept-i : goal.offset_bounds-kept-i
-offset_bounds-kept-i c = omega (arith, c.requires.0.few_rules)
-
-pub bounds-kept-i : goal.bounds-kept-i
-bounds-kept-i c = omega (arith, c.requires.0.few_rules)
-
-pub overflow_step-i : goal.overflow_step-i
-overflow_step-i c = omega (arith, c.requires.0.few_rules)
-
-pub loop-i-smaller : goal.loop-i-smaller
-loop-i-smaller c = omega arith
 
 pub loop-i-preserved : goal.loop-i-preserved
 loop-i-preserved c =

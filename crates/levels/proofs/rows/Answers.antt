@@ -15,9 +15,6 @@ returns-then-count-levels c =
     let all = subst (λ (n : ℕ). OldLevels n c.args.count c.args.old.now) (sym c.if-count-levels.true) c.requires.1 in
     rows_all all c.args.class.now c.requires.2
 
-pub overflow_mul-x-end : goal.overflow_mul-x-end
-overflow_mul-x-end c = omega (arith, c.requires.1.few)
-
 pub loop-x-init : goal.loop-x-init
 loop-x-init c = (refl, omega arith, record { sized = refl; each = λ i l. absurd (omega arith) })
 
@@ -25,35 +22,8 @@ loop-x-init c = (refl, omega arith, record { sized = refl; each = λ i l. absurd
 below : (c : In-loop-x) → get_or c.args.old.now (c.loop-x.x / 64 + 1) 0 ≤ most_levels
 below c = omega (arith, row_to c.requires.1 c.loop-x.x c.loop-x-test.true, c.requires.0)
 
-pub overflow_add-k : goal.overflow_add-k
-overflow_add-k c = omega (arith, c.requires.1.few)
-
-pub bounds-old-k : goal.bounds-old-k
-bounds-old-k c = omega (arith, c.requires.1.few, c.requires.1.sized)
-
-pub overflow_cast-q : goal.overflow_cast-q
-overflow_cast-q c = omega (arith, below c.before.before.before)
-
 pub overflow_sub-kept : goal.overflow_sub-kept
 overflow_sub-kept c = row_from c.requires.1 c.loop-x.x c.loop-x-test.true
-
-pub overflow_mul-kept : goal.overflow_mul-kept
-overflow_mul-kept c = omega (arith, below c.before.before.before)
-
-pub overflow_add-kept : goal.overflow_add-kept
-overflow_add-kept c = omega (arith, below c.before.before.before)
-
-pub bounds-class-q : goal.bounds-class-q
-bounds-class-q c = omega (arith, below c.before.before.before.before, c.requires.2)
-
-pub bounds-kept-x : goal.bounds-kept-x
-bounds-kept-x c = omega (arith, c.requires.1.few)
-
-pub overflow_step-x : goal.overflow_step-x
-overflow_step-x c = omega (arith, c.requires.1.few)
-
-pub loop-x-smaller : goal.loop-x-smaller
-loop-x-smaller c = omega arith
 
 pub loop-x-preserved : goal.loop-x-preserved
 loop-x-preserved c =

@@ -40,6 +40,3 @@ place-returns-then-idle-ne0 t c = turn_free c.requires c.lowest-class.ensures c.
 
 pub place-augment-requires : goal.place-augment-requires
 place-augment-requires t c = (omega (arith, c.decreases), turn_crowded c.requires c.if-idle-ne0.false)
-
-pub place-returns : goal.place-returns
-place-returns t c = c.augment.ensures

@@ -8,27 +8,9 @@ use Rattle.relax.proofs.carry.Goals as goal
 pub loop-i-init : goal.loop-i-init
 loop-i-init c = (refl, omega arith, record { sized = refl; follows = λ i l. absurd (omega arith) })
 
-pub offset_bounds-rule-i : goal.offset_bounds-rule-i
-offset_bounds-rule-i c = omega (arith, c.requires.0.ruled.few_rules)
-
-pub bounds-rule-i : goal.bounds-rule-i
-bounds-rule-i c = omega (arith, c.requires.0.ruled.few_rules)
-
 pub say-requires : goal.say-requires
 say-requires c =
     carriable c.args.size c.args.class.now c.args.rule.now c.requires.0 c.loop-i.i (omega arith) c.args.q c.requires.1 c.requires.2
-
-pub offset_bounds-carried-i : goal.offset_bounds-carried-i
-offset_bounds-carried-i c = omega (arith, c.requires.0.ruled.few_rules)
-
-pub bounds-carried-i : goal.bounds-carried-i
-bounds-carried-i c = omega (arith, c.requires.0.ruled.few_rules)
-
-pub overflow_step-i : goal.overflow_step-i
-overflow_step-i c = omega arith
-
-pub loop-i-smaller : goal.loop-i-smaller
-loop-i-smaller c = omega arith
 
 pub loop-i-preserved : goal.loop-i-preserved
 loop-i-preserved c =

@@ -12,9 +12,6 @@ use Rattle.relax.proofs.Tallying.{classes_few}
 use Rattle.relax.specs.Bound.{Nests, Counted, Needs}
 use Rattle.relax.proofs.to_coarser.Goals as goal
 
-pub without_load-loose-requires : goal.without_load-loose-requires
-without_load-loose-requires c = c.requires.0.few_steps
-
 pub returns-then-lowest-lt2 : goal.returns-then-lowest-lt2
 returns-then-lowest-lt2 c =
     let p = c.without_load-loose.ensures in

@@ -15,20 +15,11 @@ use Rattle.levels.proofs.index.crowds.Goals.{In-loop-p}
 pub gather-requires : goal.gather-requires
 gather-requires c = let q = c.requires in (q.1.few, q.0, q.1.sized)
 
-pub returns-then-levels-eq0 : goal.returns-then-levels-eq0
-returns-then-levels-eq0 c = c.gather.ensures
-
-pub overflow_sub-last : goal.overflow_sub-last
-overflow_sub-last c = omega arith
-
 pub alone-requires : goal.alone-requires
 alone-requires c = let q = c.requires in (q.1.few, q.1.sized, omega (arith, q.0))
 
 pub gather-requires-then-not-alone : goal.gather-requires-then-not-alone
 gather-requires-then-not-alone c = let q = c.requires in (q.1.few, q.0, q.1.sized)
-
-pub returns-then-not-alone : goal.returns-then-not-alone
-returns-then-not-alone c = c.gather-then-not-alone.ensures
 
 pub gather-crowd-requires : goal.gather-crowd-requires
 gather-crowd-requires c = let q = c.requires in (q.1.few, omega (arith, q.0), q.1.sized)
@@ -36,29 +27,11 @@ gather-crowd-requires c = let q = c.requires in (q.1.few, omega (arith, q.0), q.
 pub loop-p-init : goal.loop-p-init
 loop-p-init c = (omega arith, completing_none c.requires.1.few c.gather-crowd.ensures)
 
-pub with-requires : goal.with-requires
-with-requires c = omega (arith, c.requires.1.few)
-
 index : (c : In-loop-p) → (c.args.levels - 1) * 64 + c.loop-p.p < class_entries
 index c = omega (arith, c.requires.0, c.requires.1.few, c.loop-p-test.true, c.if-levels-eq0.false)
 
-pub overflow_mul-crowd : goal.overflow_mul-crowd
-overflow_mul-crowd c = omega (arith, index c.before)
-
-pub overflow_add-crowd : goal.overflow_add-crowd
-overflow_add-crowd c = omega (arith, index c.before)
-
-pub offset_bounds-crowd-last : goal.offset_bounds-crowd-last
-offset_bounds-crowd-last c = omega (arith, index c.before)
-
 pub bounds-crowd-last : goal.bounds-crowd-last
 bounds-crowd-last c = index c.before
-
-pub overflow_step-p : goal.overflow_step-p
-overflow_step-p c = omega (arith, c.requires.1.few, c.loop-p-test.true)
-
-pub loop-p-smaller : goal.loop-p-smaller
-loop-p-smaller c = omega (arith, c.loop-p-test.true)
 
 pub loop-p-preserved : goal.loop-p-preserved
 loop-p-preserved c =

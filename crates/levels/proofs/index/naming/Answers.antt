@@ -7,12 +7,6 @@ use Rattle.levels.proofs.index.naming.Goals as goal
 pub loop-i-init : goal.loop-i-init
 loop-i-init c = (omega arith, naming_none c.args.rule.now)
 
-pub offset_bounds-rule-i : goal.offset_bounds-rule-i
-offset_bounds-rule-i c = omega (arith, c.requires.few_rules)
-
-pub bounds-rule-i : goal.bounds-rule-i
-bounds-rule-i c = omega (arith, c.requires.few_rules)
-
 pub loop-s-init : goal.loop-s-init
 loop-s-init c =
     let l = c.loop-i in
@@ -22,9 +16,6 @@ loop-s-init c =
 pub bounds-of-s : goal.bounds-of-s
 bounds-of-s c = c.in-Some.ensures.steps.1.below 12 c.loop-s.invariant.few
 
-pub with-requires : goal.with-requires
-with-requires c = omega (arith, c.loop-i.invariant.0, c.requires.few_rules)
-
 pub bounds-of-s-in-loop-s : goal.bounds-of-s-in-loop-s
 bounds-of-s-in-loop-s c = c.in-Some.ensures.steps.1.below 12 c.loop-s.invariant.few
 
@@ -32,12 +23,6 @@ pub loop-s-preserved : goal.loop-s-preserved
 loop-s-preserved c =
     giving_next c.args.rule.now c.loop-i.i c.loop-s.s-iterator.left c.in-Some.s c.next.new.self.left c.with.result c.loop-s.of
     c.loop-s.invariant c.in-Some.ensures.steps.1 c.with.ensures
-
-pub overflow_step-i : goal.overflow_step-i
-overflow_step-i c = omega arith
-
-pub loop-i-smaller : goal.loop-i-smaller
-loop-i-smaller c = omega arith
 
 pub loop-i-preserved : goal.loop-i-preserved
 loop-i-preserved c =

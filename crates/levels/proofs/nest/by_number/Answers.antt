@@ -6,9 +6,6 @@ use Rattle.levels.proofs.Nesting.{numbered_none, numbered_skip, numbered_take, n
 use native.Mathlib.Omega.{arith}
 use Rattle.levels.proofs.nest.by_number.Goals as goal
 
-pub overflow_mul-x-end : goal.overflow_mul-x-end
-overflow_mul-x-end c = omega arith
-
 pub loop-x-init : goal.loop-x-init
 loop-x-init c =
     let a = c.args in
@@ -18,48 +15,12 @@ loop-x-init c =
           (numbered_none a.people a.levels q.0 q.1 a.class.now (λ b p. p)),
     )
 
-pub overflow_step-x : goal.overflow_step-x
-overflow_step-x c = omega arith
-
-pub loop-x-smaller-then-p-people : goal.loop-x-smaller-then-p-people
-loop-x-smaller-then-p-people c = omega arith
-
 pub loop-x-preserved-then-p-people : goal.loop-x-preserved-then-p-people
 loop-x-preserved-then-p-people c =
     let a = c.args in
     let q = c.requires in
     let l = c.loop-x in
     (omega arith, numbered_skip a.people a.levels q.0 q.1 a.class.now (λ b p. p) l.x l.inside l.invariant.1 c.loop-x-test.true c.if-p-people.true)
-
-pub overflow_sub-v : goal.overflow_sub-v
-overflow_sub-v c = omega arith
-
-pub bounds-class-x : goal.bounds-class-x
-bounds-class-x c = omega arith
-
-pub overflow_cast-v : goal.overflow_cast-v
-overflow_cast-v c = omega arith
-
-pub overflow_add-v : goal.overflow_add-v
-overflow_add-v c = omega arith
-
-pub offset_bounds-inside-v : goal.offset_bounds-inside-v
-offset_bounds-inside-v c = omega arith
-
-pub bounds-inside-v : goal.bounds-inside-v
-bounds-inside-v c = omega (arith, c.loop-x.invariant.1.sized)
-
-pub offset_bounds-inside-v-in-loop-x : goal.offset_bounds-inside-v-in-loop-x
-offset_bounds-inside-v-in-loop-x c = omega arith
-
-pub bounds-inside-v-in-loop-x : goal.bounds-inside-v-in-loop-x
-bounds-inside-v-in-loop-x c = omega (arith, c.loop-x.invariant.1.sized)
-
-pub overflow_step-x-in-loop-x : goal.overflow_step-x-in-loop-x
-overflow_step-x-in-loop-x c = omega arith
-
-pub loop-x-smaller : goal.loop-x-smaller
-loop-x-smaller c = omega arith
 
 pub loop-x-preserved : goal.loop-x-preserved
 loop-x-preserved c =

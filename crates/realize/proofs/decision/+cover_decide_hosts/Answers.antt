@@ -18,9 +18,6 @@ cover-groups_of-heads-requires t c = let p = c.requires in (p.0.labels, omega ar
 pub cover-loop-g-init : goal.cover-loop-g-init
 cover-loop-g-init t c = rw c.into_iter-g-iterator.ensures.into_iter_gives (rw c.members-g-items.ensures (linked_none refl))
 
-pub cover-overflow_cast-g : goal.cover-overflow_cast-g
-cover-overflow_cast-g t c = omega (arith, c.in-Some.ensures.steps.0)
-
 pub cover-members-group-requires : goal.cover-members-group-requires
 cover-members-group-requires t c = let p = c.requires in (p.0.labels, omega arith, p.0.below)
 
@@ -33,9 +30,6 @@ cover-returns-then-row-eq0 t c =
     covering_none c.groups_of-heads.ensures c.loop-g.invariant c.in-Some.ensures.steps.1.lowest c.members-group.ensures c.hosts-row.ensures
     c.if-row-eq0.true
 
-pub cover-offset_bounds-edges-g : goal.cover-offset_bounds-edges-g
-cover-offset_bounds-edges-g t c = omega (arith, c.in-Some.ensures.steps.0)
-
 pub cover-bounds-edges-g : goal.cover-bounds-edges-g
 cover-bounds-edges-g t c =
     taken_below c.in-Some.ensures.steps.1 12 c.groups_of-heads.result (heads_few c.requires.0 _ c.groups_of-heads.ensures) c.loop-g.invariant.part
@@ -43,9 +37,6 @@ cover-bounds-edges-g t c =
 pub cover-loop-g-preserved : goal.cover-loop-g-preserved
 cover-loop-g-preserved t c =
     linked_next c.loop-g.invariant c.in-Some.ensures.steps.1 (cover-bounds-edges-g t c) c.members-group.ensures c.hosts-row.ensures
-
-pub cover-assign-requires : goal.cover-assign-requires
-cover-assign-requires t c = tt
 
 pub cover-returns : goal.cover-returns
 cover-returns t c =
@@ -74,9 +65,6 @@ hosts-returns-then-task t c =
     let p = c.requires in
     hosted_last p.0.below p.1 c.candidates-row.ensures c.if-task.true
 
-pub hosts-without-requires : goal.hosts-without-requires
-hosts-without-requires t c = c.requires.2
-
 pub hosts-returns-then-without-eq0 : goal.hosts-returns-then-without-eq0
 hosts-returns-then-without-eq0 t c =
     let p = c.requires in
@@ -84,15 +72,6 @@ hosts-returns-then-without-eq0 t c =
 
 pub hosts-loop-v-init : goal.hosts-loop-v-init
 hosts-loop-v-init t c = rw c.into_iter-v-iterator.ensures.into_iter_gives (rw c.members-v-items.ensures hosting_none)
-
-pub hosts-overflow_add-q : goal.hosts-overflow_add-q
-hosts-overflow_add-q t c = omega (arith, c.in-Some.ensures.steps.0)
-
-pub hosts-overflow_mul-inside : goal.hosts-overflow_mul-inside
-hosts-overflow_mul-inside t c = omega (arith, c.in-Some.ensures.steps.0)
-
-pub hosts-overflow_add-inside : goal.hosts-overflow_add-inside
-hosts-overflow_add-inside t c = omega (arith, c.in-Some.ensures.steps.0)
 
 pub hosts-decide-requires : goal.hosts-decide-requires
 hosts-decide-requires t c =

@@ -7,12 +7,6 @@ use Rattle.realize.proofs.decision.candidates.Goals as goal
 pub loop-s-init : goal.loop-s-init
 loop-s-init c = rw c.into_iter-s-iterator.ensures.into_iter_gives (rw c.members-s-items.ensures (candidates_none c.args.reach.now c.args.q c.args.group c.args.inside))
 
-pub overflow_mul-found : goal.overflow_mul-found
-overflow_mul-found c = omega arith
-
-pub overflow_add-found : goal.overflow_add-found
-overflow_add-found c = omega (arith, c.in-Some.ensures.steps.0)
-
 pub offset_bounds-reach-q : goal.offset_bounds-reach-q
 offset_bounds-reach-q c = omega (arith, (taken_below c.in-Some.ensures.steps.1 12 c.args.group c.requires.2 c.loop-s.invariant.part))
 

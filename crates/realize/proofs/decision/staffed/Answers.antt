@@ -7,9 +7,6 @@ use Rattle.realize.proofs.decision.staffed.Goals as goal
 pub loop-s-init : goal.loop-s-init
 loop-s-init c = rw c.into_iter-s-iterator.ensures.into_iter_gives (rw c.members-s-items.ensures staffing_none)
 
-pub offset_bounds-may-s : goal.offset_bounds-may-s
-offset_bounds-may-s c = omega (arith, c.in-Some.ensures.steps.0)
-
 pub bounds-may-s : goal.bounds-may-s
 bounds-may-s c = taken_below c.in-Some.ensures.steps.1 12 c.args.steps c.requires.1 c.loop-s.invariant.part
 

@@ -9,9 +9,6 @@ pub loop-s-init : goal.loop-s-init
 loop-s-init g c =
     rw c.into_iter-s-iterator.ensures.into_iter_gives (rw c.members-s-items.ensures (λ s h. h, λ test w. sifted_none c.args.steps _))
 
-pub overflow_add-q : goal.overflow_add-q
-overflow_add-q g c = omega (arith, c.in-Some.ensures.steps.0)
-
 pub bounds-label-q : goal.bounds-label-q
 bounds-label-q g c =
     omega (arith, taken_below c.in-Some.ensures.steps.1 12 c.args.steps c.requires.sized.2 c.loop-s.invariant.0)

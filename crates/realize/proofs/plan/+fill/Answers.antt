@@ -29,9 +29,6 @@ groups_of-heads-requires t c =
 pub loop-g-init : goal.loop-g-init
 loop-g-init t c = rw c.into_iter-g-iterator.ensures.into_iter_gives (rw c.members-g-items.ensures sent_none)
 
-pub overflow_cast-g : goal.overflow_cast-g
-overflow_cast-g t c = record { fits = omega (arith, c.in-Some-g.ensures.steps.0) }
-
 pub members-group-requires : goal.members-group-requires
 members-group-requires t c =
     let p = c.requires in

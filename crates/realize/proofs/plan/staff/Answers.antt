@@ -8,18 +8,12 @@ use Rattle.realize.proofs.plan.staff.Goals as goal
 pub loop-s-init : goal.loop-s-init
 loop-s-init c = rw c.into_iter-s-iterator.ensures.into_iter_gives (rw c.members-s-items.ensures staffed_none)
 
-pub offset_bounds-may-s : goal.offset_bounds-may-s
-offset_bounds-may-s c = omega (arith, c.in-Some.ensures.steps.0)
-
 pub bounds-may-s : goal.bounds-may-s
 bounds-may-s c = (taken_below c.in-Some.ensures.steps.1 12 c.args.steps c.requires.1 c.loop-s.invariant.part)
 
 pub loop-s-preserved-then-able-eq0 : goal.loop-s-preserved-then-able-eq0
 loop-s-preserved-then-able-eq0 c =
     staffed_skip c.args.may.now c.args.people c.loop-s.invariant c.in-Some.ensures.steps.1 c.if-able-eq0.true
-
-pub overflow_cast-plan : goal.overflow_cast-plan
-overflow_cast-plan c = omega arith
 
 pub bounds-plan-s : goal.bounds-plan-s
 bounds-plan-s c = (taken_below c.in-Some.ensures.steps.1 12 c.args.steps c.requires.1 c.loop-s.invariant.part)

@@ -7,39 +7,15 @@ use Rattle.realize.proofs.tables.holding.Goals as goal
 pub loop-v-init : goal.loop-v-init
 loop-v-init c = (omega arith, held_none c.args.nest.now c.args.q c.args.these)
 
-pub overflow_mul-inside : goal.overflow_mul-inside
-overflow_mul-inside c = omega arith
-
-pub overflow_add-inside : goal.overflow_add-inside
-overflow_add-inside c = omega arith
-
-pub offset_bounds-nest-q : goal.offset_bounds-nest-q
-offset_bounds-nest-q c = omega arith
-
-pub bounds-nest-q : goal.bounds-nest-q
-bounds-nest-q c = omega arith
-
 pub returns-then-inside-eq0 : goal.returns-then-inside-eq0
 returns-then-inside-eq0 c =
     let a = c.args in
     holding_empty a.nest.now a.q a.these c.loop-v.invariant.1 c.loop-v-test.true c.if-inside-eq0.true
 
-pub overflow_step-v : goal.overflow_step-v
-overflow_step-v c = omega arith
-
-pub loop-v-smaller-then-common-eq0 : goal.loop-v-smaller-then-common-eq0
-loop-v-smaller-then-common-eq0 c = omega arith
-
 pub loop-v-preserved-then-common-eq0 : goal.loop-v-preserved-then-common-eq0
 loop-v-preserved-then-common-eq0 c =
     let a = c.args in
     (omega arith, held_skip a.nest.now a.q a.these c.loop-v.invariant.1 c.if-inside-eq0.false c.if-common-eq0.true)
-
-pub overflow_step-v-in-loop-v : goal.overflow_step-v-in-loop-v
-overflow_step-v-in-loop-v c = omega arith
-
-pub loop-v-smaller : goal.loop-v-smaller
-loop-v-smaller c = omega arith
 
 pub loop-v-preserved : goal.loop-v-preserved
 loop-v-preserved c =

@@ -38,76 +38,16 @@ next i row parts =
     rising_more a.people a.class.now a.may.now a.levels a.q l.s row l.reach (omega (arith, i.requires.0, i.requires.4))
     i.loop-s-test.true l.invariant.1 parts
 
-pub overflow_mul-x : goal.overflow_mul-x
-overflow_mul-x c = omega arith
-
-pub overflow_add-x : goal.overflow_add-x
-overflow_add-x c = omega arith
-
-pub offset_bounds-may-s : goal.offset_bounds-may-s
-offset_bounds-may-s c = omega arith
-
-pub bounds-may-s : goal.bounds-may-s
-bounds-may-s c = omega arith
-
-pub offset_bounds-reach-x : goal.offset_bounds-reach-x
-offset_bounds-reach-x c = omega arith
-
-pub bounds-reach-x : goal.bounds-reach-x
-bounds-reach-x c = omega arith
-
-pub overflow_step-s : goal.overflow_step-s
-overflow_step-s c = omega arith
-
-pub loop-s-smaller-then-own : goal.loop-s-smaller-then-own
-loop-s-smaller-then-own c = omega arith
-
 pub loop-s-preserved-then-own : goal.loop-s-preserved-then-own
 loop-s-preserved-then-own c =
     let t = c.alone-own in
     let own = says_true t.result _ (t.ensures c.args.levels c.requires.1 c.requires.4) c.if-own.true in
     (omega arith, next c.before.before.before _ (parts_own c.requires.1 c.args.q c.requires.4 own (able c.before.before.before.before.before.before)))
 
-pub overflow_add-q : goal.overflow_add-q
-overflow_add-q c = omega arith
-
-pub offset_bounds-reach-x-then-levels-q : goal.offset_bounds-reach-x-then-levels-q
-offset_bounds-reach-x-then-levels-q c = omega arith
-
-pub bounds-reach-x-then-levels-q : goal.bounds-reach-x-then-levels-q
-bounds-reach-x-then-levels-q c = omega arith
-
-pub overflow_step-s-then-levels-q : goal.overflow_step-s-then-levels-q
-overflow_step-s-then-levels-q c = omega arith
-
-pub loop-s-smaller-then-levels-q : goal.loop-s-smaller-then-levels-q
-loop-s-smaller-then-levels-q c = omega arith
-
 pub loop-s-preserved-then-levels-q : goal.loop-s-preserved-then-levels-q
 loop-s-preserved-then-levels-q c =
     let these = parts_last c.args.levels c.args.class.now c.args.q c.if-levels-q.true (able c.before.before.before.before.before.before.before.before) in
     (omega arith, next c.before.before.before.before.before c.holding.result (parts_up c.requires.1 c.requires.2 c.args.q c.requires.4 these c.holding.ensures))
-
-pub overflow_add-x-in-loop-s : goal.overflow_add-x-in-loop-s
-overflow_add-x-in-loop-s c = omega arith
-
-pub offset_bounds-reach-x-in-loop-s : goal.offset_bounds-reach-x-in-loop-s
-offset_bounds-reach-x-in-loop-s c = omega arith
-
-pub bounds-reach-x-in-loop-s : goal.bounds-reach-x-in-loop-s
-bounds-reach-x-in-loop-s c = omega arith
-
-pub offset_bounds-reach-x-in-loop-s-2 : goal.offset_bounds-reach-x-in-loop-s-2
-offset_bounds-reach-x-in-loop-s-2 c = omega arith
-
-pub bounds-reach-x-in-loop-s-2 : goal.bounds-reach-x-in-loop-s-2
-bounds-reach-x-in-loop-s-2 c = omega arith
-
-pub overflow_step-s-in-loop-s : goal.overflow_step-s-in-loop-s
-overflow_step-s-in-loop-s c = omega arith
-
-pub loop-s-smaller : goal.loop-s-smaller
-loop-s-smaller c = omega arith
 
 pub loop-s-preserved : goal.loop-s-preserved
 loop-s-preserved c =

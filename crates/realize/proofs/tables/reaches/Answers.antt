@@ -12,12 +12,6 @@ loop-k-init c =
     let a = c.args in
     (omega arith, reached_none a.people a.class.now a.may.now ((a.levels - 0) * 12) (a.levels * 12) (omega arith) (length-replicate {A = ℕ} label_entries 0))
 
-pub overflow_sub-levels : goal.overflow_sub-levels
-overflow_sub-levels c = omega arith
-
-pub overflow_sub-levels-in-loop-k : goal.overflow_sub-levels-in-loop-k
-overflow_sub-levels-in-loop-k c = omega arith
-
 pub level_reach-requires : goal.level_reach-requires
 level_reach-requires c =
     let l = c.loop-k in
@@ -30,12 +24,6 @@ level_reach-requires c =
       reached_from a.people a.class.now a.may.now ((a.levels - l.k) * 12) ((a.levels - 1 - l.k + 1) * 12) (a.levels * 12) (omega arith)
           l.invariant.1,
     )
-
-pub overflow_step-k : goal.overflow_step-k
-overflow_step-k c = omega arith
-
-pub loop-k-smaller : goal.loop-k-smaller
-loop-k-smaller c = omega arith
 
 pub loop-k-preserved : goal.loop-k-preserved
 loop-k-preserved c =

@@ -10,15 +10,6 @@ loop-m-init c = (omega arith, needs_one c.args.counts.now (c.args.classes - 1) c
 pub most-requires : goal.most-requires
 most-requires c = (c.requires.0, c.requires.1, omega arith)
 
-pub returns-then-most-k : goal.returns-then-most-k
-returns-then-most-k c = c.loop-m.invariant.1
-
-pub overflow_step-m : goal.overflow_step-m
-overflow_step-m c = omega arith
-
-pub loop-m-smaller : goal.loop-m-smaller
-loop-m-smaller c = omega arith
-
 pub loop-m-preserved : goal.loop-m-preserved
 loop-m-preserved c =
     let a = c.args in

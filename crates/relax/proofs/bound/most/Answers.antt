@@ -8,35 +8,11 @@ use Rattle.relax.proofs.bound.most.Goals as goal
 pub loop-r-init : goal.loop-r-init
 loop-r-init c = (omega arith, omega arith, sym (together-zero c.args.counts.now c.args.m), omega arith)
 
-pub bounds-counts-r : goal.bounds-counts-r
-bounds-counts-r c = omega arith
-
-pub overflow_cast-sum-then-all-m : goal.overflow_cast-sum-then-all-m
-overflow_cast-sum-then-all-m c = omega arith
-
-pub overflow_add-sum : goal.overflow_add-sum
-overflow_add-sum c = omega arith
-
-pub overflow_step-r : goal.overflow_step-r
-overflow_step-r c = omega arith
-
-pub loop-r-smaller-then-all-m : goal.loop-r-smaller-then-all-m
-loop-r-smaller-then-all-m c = omega arith
-
 pub loop-r-preserved-then-all-m : goal.loop-r-preserved-then-all-m
 loop-r-preserved-then-all-m c =
     let a = c.args in
     let l = c.loop-r in
     (omega arith, omega arith, together-all a.counts.now a.m l.r l.sum l.invariant.0 l.invariant.2 c.if-all-m.true, omega arith)
-
-pub overflow_add-sum-in-loop-r : goal.overflow_add-sum-in-loop-r
-overflow_add-sum-in-loop-r c = omega arith
-
-pub overflow_step-r-in-loop-r : goal.overflow_step-r-in-loop-r
-overflow_step-r-in-loop-r c = omega arith
-
-pub loop-r-smaller : goal.loop-r-smaller
-loop-r-smaller c = omega arith
 
 pub loop-r-preserved : goal.loop-r-preserved
 loop-r-preserved c =

@@ -42,12 +42,6 @@ without-requires t c = omega (arith, (below_steps c.requires.0.tables.given.rule
 pub bounds-setting-s : goal.bounds-setting-s
 bounds-setting-s t c = omega (arith, (below_steps c.requires.0.tables.given.ruled (c.requires.2.below _ c.next_step-s.ensures)), c.requires.0.tables.naming.sized)
 
-pub overflow_mul-ways : goal.overflow_mul-ways
-overflow_mul-ways t c = omega (arith, c.requires.0.tables.given.ruled.few_levels)
-
-pub overflow_add-ways : goal.overflow_add-ways
-overflow_add-ways t c = omega (arith, c.requires.0.tables.given.ruled.few_levels)
-
 pub loop-w-init : goal.loop-w-init
 loop-w-init t c =
     let p = c.requires in
@@ -63,13 +57,6 @@ grow-requires t c =
       turn_growable r.2 ch ad go c.loop-w.invariant.2 (omega (arith, c.loop-w-test.true)) r.0.tables.given.ruled.rule_ok,
       named_touched r.0.tables.naming ((below_steps c.requires.0.tables.given.ruled (c.requires.2.below _ c.next_step-s.ensures))),
     )
-
-pub overflow_step-w : goal.overflow_step-w
-overflow_step-w t c =
-    omega (arith, c.loop-w-test.true, c.requires.0.tables.given.ruled.few_levels)
-
-pub loop-w-smaller-then-not-grow : goal.loop-w-smaller-then-not-grow
-loop-w-smaller-then-not-grow t c = omega (arith, c.loop-w-test.true)
 
 pub loop-w-preserved-then-not-grow : goal.loop-w-preserved-then-not-grow
 loop-w-preserved-then-not-grow t c =
@@ -100,13 +87,6 @@ returns-then-find t c =
     let ad = c.with.ensures in
     let go = c.without.ensures in
     (outcome_won r.2 ch ad go c.find.ensures.0 c.if-find.true, c.find.ensures.1)
-
-pub overflow_step-w-in-loop-w : goal.overflow_step-w-in-loop-w
-overflow_step-w-in-loop-w t c =
-    omega (arith, c.loop-w-test.true, c.requires.0.tables.given.ruled.few_levels)
-
-pub loop-w-smaller : goal.loop-w-smaller
-loop-w-smaller t c = omega (arith, c.loop-w-test.true)
 
 pub loop-w-preserved : goal.loop-w-preserved
 loop-w-preserved t c =

@@ -10,38 +10,11 @@ use Rattle.search.proofs.limits.classes_of.Goals as goal
 pub loop-s-init : goal.loop-s-init
 loop-s-init c = (omega arith, gathering_none c.args.reach.now c.args.q c.args.scope)
 
-pub has-requires : goal.has-requires
-has-requires c = omega arith
-
-pub overflow_step-s : goal.overflow_step-s
-overflow_step-s c = omega arith
-
-pub loop-s-smaller-then-not-has : goal.loop-s-smaller-then-not-has
-loop-s-smaller-then-not-has c = omega arith
-
 pub loop-s-preserved-then-not-has : goal.loop-s-preserved-then-not-has
 loop-s-preserved-then-not-has c =
     let a = c.args in
     let l = c.loop-s in
     (omega arith, gathering_past a.reach.now a.q a.scope l.s l.all (sym c.has.ensures ∙ not-true c.has.result (ap not c.if-not-has.true)) l.invariant.1)
-
-pub overflow_mul-all : goal.overflow_mul-all
-overflow_mul-all c = omega arith
-
-pub overflow_add-all : goal.overflow_add-all
-overflow_add-all c = omega arith
-
-pub offset_bounds-reach-q : goal.offset_bounds-reach-q
-offset_bounds-reach-q c = omega arith
-
-pub bounds-reach-q : goal.bounds-reach-q
-bounds-reach-q c = omega arith
-
-pub overflow_step-s-in-loop-s : goal.overflow_step-s-in-loop-s
-overflow_step-s-in-loop-s c = omega arith
-
-pub loop-s-smaller : goal.loop-s-smaller
-loop-s-smaller c = omega arith
 
 pub loop-s-preserved : goal.loop-s-preserved
 loop-s-preserved c =

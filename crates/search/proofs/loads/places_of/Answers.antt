@@ -6,32 +6,8 @@ use Rattle.search.proofs.loads.places_of.Goals as goal
 pub loop-s-init : goal.loop-s-init
 loop-s-init c = (omega arith, places_none c.args.reach.now c.args.q c.args.width c.args.load)
 
-pub overflow_mul-q : goal.overflow_mul-q
-overflow_mul-q c = omega arith
-
-pub overflow_add-q : goal.overflow_add-q
-overflow_add-q c = omega arith
-
-pub offset_bounds-reach-q : goal.offset_bounds-reach-q
-offset_bounds-reach-q c = omega arith
-
-pub bounds-reach-q : goal.bounds-reach-q
-bounds-reach-q c = omega arith
-
 pub repeated-requires : goal.repeated-requires
 repeated-requires c = let p = c.requires in (p.3, p.4)
-
-pub offset_bounds-edges-s : goal.offset_bounds-edges-s
-offset_bounds-edges-s c = omega arith
-
-pub bounds-edges-s : goal.bounds-edges-s
-bounds-edges-s c = omega arith
-
-pub overflow_step-s : goal.overflow_step-s
-overflow_step-s c = omega arith
-
-pub loop-s-smaller : goal.loop-s-smaller
-loop-s-smaller c = omega arith
 
 pub loop-s-preserved : goal.loop-s-preserved
 loop-s-preserved c =

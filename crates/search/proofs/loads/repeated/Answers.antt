@@ -13,17 +13,8 @@ start-below : (c : In-loop-k) → c.loop-k.k * c.args.width < 64
 start-below c =
     omega (arith, place_below c.loop-k.k c.args.width c.args.times 0 c.loop-k-test.true c.requires.0, c.requires.1)
 
-pub overflow_mul-all : goal.overflow_mul-all
-overflow_mul-all c = omega (arith, start-below c)
-
 pub overflow_shl-all : goal.overflow_shl-all
 overflow_shl-all c = start-below c
-
-pub overflow_step-k : goal.overflow_step-k
-overflow_step-k c = omega arith
-
-pub loop-k-smaller : goal.loop-k-smaller
-loop-k-smaller c = omega arith
 
 pub loop-k-preserved : goal.loop-k-preserved
 loop-k-preserved c =

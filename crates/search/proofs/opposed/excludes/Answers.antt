@@ -12,9 +12,6 @@ use Rattle.search.proofs.opposed.excludes.Goals as goal
 pub returns-then-level : goal.returns-then-level
 returns-then-level c = λ e. true-false e refl
 
-pub overflow_add-result : goal.overflow_add-result
-overflow_add-result c = omega (arith, c.most.ensures.1, c.open_count-outside.ensures.0)
-
 pub returns : goal.returns
 returns c =
     let a = c.args in

@@ -9,44 +9,11 @@ use Rattle.search.proofs.pairs.room_of.Goals as goal
 pub loop-x-init : goal.loop-x-init
 loop-x-init c = (omega arith, room_none c.args.within.now c.args.all c.args.load c.args.width)
 
-pub nonzero_rem-x : goal.nonzero_rem-x
-nonzero_rem-x c = omega arith
-
-pub offset_bounds-within-x : goal.offset_bounds-within-x
-offset_bounds-within-x c = omega (arith, mod-le c.loop-x.x c.args.width)
-
-pub bounds-within-x : goal.bounds-within-x
-bounds-within-x c = omega (arith, mod-le c.loop-x.x c.args.width)
-
-pub size-requires : goal.size-requires
-size-requires c = tt
-
-pub overflow_mul-size : goal.overflow_mul-size
-overflow_mul-size c = omega (arith, c.size.ensures.1, mul-le-mul_right c.args.load c.size.ensures.1)
-
-pub nonzero_div-x : goal.nonzero_div-x
-nonzero_div-x c = omega arith
-
-pub overflow_step-x : goal.overflow_step-x
-overflow_step-x c = omega arith
-
-pub loop-x-smaller-then-size-load : goal.loop-x-smaller-then-size-load
-loop-x-smaller-then-size-load c = omega arith
-
 pub loop-x-preserved-then-size-load : goal.loop-x-preserved-then-size-load
 loop-x-preserved-then-size-load c =
     let a = c.args in
     let few = subst (λ (y : ℕ). y * a.load ≤ c.loop-x.x / a.width) c.size.ensures.0 c.if-size-load.true in
     (omega arith, room_past a.within.now a.all a.load a.width c.loop-x.x c.loop-x.room few c.loop-x.invariant.1)
-
-pub with-room-requires : goal.with-room-requires
-with-room-requires c = omega arith
-
-pub overflow_step-x-in-loop-x : goal.overflow_step-x-in-loop-x
-overflow_step-x-in-loop-x c = omega arith
-
-pub loop-x-smaller : goal.loop-x-smaller
-loop-x-smaller c = omega arith
 
 pub loop-x-preserved : goal.loop-x-preserved
 loop-x-preserved c =

@@ -9,29 +9,8 @@ use Rattle.search.proofs.patterns.named.Goals as goal
 pub loop-s-init : goal.loop-s-init
 loop-s-init c = (omega arith, named_none c.args.of.now)
 
-pub offset_bounds-of-s : goal.offset_bounds-of-s
-offset_bounds-of-s c = omega (arith, c.requires.0)
-
-pub bounds-of-s : goal.bounds-of-s
-bounds-of-s c = omega (arith, c.requires.0, c.requires.1)
-
-pub overflow_step-s : goal.overflow_step-s
-overflow_step-s c = omega (arith, c.requires.0)
-
-pub loop-s-smaller-then-of-s-eq0 : goal.loop-s-smaller-then-of-s-eq0
-loop-s-smaller-then-of-s-eq0 c = omega arith
-
 pub loop-s-preserved-then-of-s-eq0 : goal.loop-s-preserved-then-of-s-eq0
 loop-s-preserved-then-of-s-eq0 c = (omega arith, named_skip c.loop-s.invariant.1 c.if-of-s-eq0.true)
-
-pub with-all-requires : goal.with-all-requires
-with-all-requires c = omega (arith, c.requires.0)
-
-pub overflow_step-s-in-loop-s : goal.overflow_step-s-in-loop-s
-overflow_step-s-in-loop-s c = omega (arith, c.requires.0)
-
-pub loop-s-smaller : goal.loop-s-smaller
-loop-s-smaller c = omega arith
 
 pub loop-s-preserved : goal.loop-s-preserved
 loop-s-preserved c = (omega arith, named_take c.loop-s.invariant.1 c.with-all.ensures)

@@ -11,21 +11,6 @@ group-g-requires c =
     let p = c.requires in
     (omega (arith, p.few, c.loop-q-test.true), p.new, p.old, c.loop-q.invariant.1.sized)
 
-pub overflow_mul-label : goal.overflow_mul-label
-overflow_mul-label c = omega (arith, c.requires.few, c.loop-q-test.true)
-
-pub overflow_add-label : goal.overflow_add-label
-overflow_add-label c = omega (arith, c.requires.few, c.requires.new, c.loop-q-test.true)
-
-pub bounds-label-q : goal.bounds-label-q
-bounds-label-q c = omega (arith, c.requires.few, c.requires.new, c.loop-q-test.true)
-
-pub overflow_step-q : goal.overflow_step-q
-overflow_step-q c = omega (arith, c.requires.few, c.loop-q-test.true)
-
-pub loop-q-smaller : goal.loop-q-smaller
-loop-q-smaller c = omega (arith, c.loop-q-test.true)
-
 pub loop-q-preserved : goal.loop-q-preserved
 loop-q-preserved c =
     let a = c.args in

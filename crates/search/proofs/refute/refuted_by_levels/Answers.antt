@@ -11,20 +11,11 @@ returns-then-levels-lt2 c = (refuting_none _ _, c.requires.2)
 pub loop-q-init : goal.loop-q-init
 loop-q-init c = (omega arith, c.requires.2)
 
-pub overflow_add-q : goal.overflow_add-q
-overflow_add-q c = omega (arith, c.requires.0.tabled.given.ruled.few_levels)
-
 pub refuted-requires : goal.refuted-requires
 refuted-requires c = let p = c.requires in (p.0, p.1, c.loop-q.invariant.1, omega arith, omega arith)
 
 pub returns-then-refuted : goal.returns-then-refuted
 returns-then-refuted c = (subst (Refuting _ _) c.if-refuted.true c.refuted.ensures.0, c.refuted.ensures.1)
-
-pub overflow_step-q : goal.overflow_step-q
-overflow_step-q c = omega (arith, c.requires.0.tabled.given.ruled.few_levels)
-
-pub loop-q-smaller : goal.loop-q-smaller
-loop-q-smaller c = omega arith
 
 pub loop-q-preserved : goal.loop-q-preserved
 loop-q-preserved c = (omega arith, c.refuted.ensures.1)

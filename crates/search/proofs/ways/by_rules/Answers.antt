@@ -6,26 +6,11 @@ use Rattle.search.proofs.ways.by_rules.Goals as goal
 pub loop-i-init : goal.loop-i-init
 loop-i-init c = (omega arith, c.requires.2)
 
-pub offset_bounds-rule-i : goal.offset_bounds-rule-i
-offset_bounds-rule-i c = omega (arith, c.requires.0.few_rules)
-
-pub bounds-rule-i : goal.bounds-rule-i
-bounds-rule-i c = omega (arith, c.requires.0.few_rules)
-
 pub by_rule-requires : goal.by_rule-requires
 by_rule-requires c =
     let p = c.requires in
     let ok = p.0.rule_ok c.loop-i.i c.loop-i-test.true in
     (ok.from, omega (arith, ok.to, p.0.few_levels), p.1, c.loop-i.invariant.1, scope_small p.0 c.loop-i.i c.loop-i-test.true)
 
-pub overflow_step-i : goal.overflow_step-i
-overflow_step-i c = omega (arith, c.loop-i-test.true)
-
-pub loop-i-smaller : goal.loop-i-smaller
-loop-i-smaller c = omega arith
-
 pub loop-i-preserved : goal.loop-i-preserved
 loop-i-preserved c = (omega arith, c.by_rule.ensures)
-
-pub returns : goal.returns
-returns c = c.loop-i.invariant.1

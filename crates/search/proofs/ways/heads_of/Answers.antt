@@ -10,20 +10,5 @@ loop-q-init c = (omega arith, refl)
 pub groups_of-requires : goal.groups_of-requires
 groups_of-requires c = (c.requires.2, omega arith, c.requires.1)
 
-pub offset_bounds-heads-q : goal.offset_bounds-heads-q
-offset_bounds-heads-q c = omega arith
-
-pub bounds-heads-q : goal.bounds-heads-q
-bounds-heads-q c = omega arith
-
-pub overflow_step-q : goal.overflow_step-q
-overflow_step-q c = omega arith
-
-pub loop-q-smaller : goal.loop-q-smaller
-loop-q-smaller c = omega arith
-
 pub loop-q-preserved : goal.loop-q-preserved
 loop-q-preserved c = (omega arith, simp length-set c.loop-q.invariant.1)
-
-pub returns : goal.returns
-returns c = c.loop-q.invariant.1

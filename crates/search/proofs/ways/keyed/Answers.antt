@@ -10,17 +10,8 @@ loop-s-init c = rw c.into_iter-s-iterator.ensures.into_iter_gives (rw c.members-
 pub ways_of-requires : goal.ways_of-requires
 ways_of-requires c = let p = c.requires in (p.0, c.in-Some.ensures.steps.1.below 12 c.loop-s.invariant.0, p.2, p.3, p.4, p.5)
 
-pub offset_bounds-weight-s : goal.offset_bounds-weight-s
-offset_bounds-weight-s c = omega (arith, c.in-Some.ensures.steps.1.below 12 c.loop-s.invariant.0)
-
 pub bounds-weight-s : goal.bounds-weight-s
 bounds-weight-s c = omega (arith, c.in-Some.ensures.steps.1.below 12 c.loop-s.invariant.0, c.requires.6)
-
-pub key-requires : goal.key-requires
-key-requires c = tt
-
-pub offset_bounds-keys-s : goal.offset_bounds-keys-s
-offset_bounds-keys-s c = omega (arith, c.in-Some.ensures.steps.1.below 12 c.loop-s.invariant.0)
 
 pub bounds-keys-s : goal.bounds-keys-s
 bounds-keys-s c = omega (arith, c.in-Some.ensures.steps.1.below 12 c.loop-s.invariant.0, c.loop-s.invariant.1)
@@ -28,6 +19,3 @@ bounds-keys-s c = omega (arith, c.in-Some.ensures.steps.1.below 12 c.loop-s.inva
 pub loop-s-preserved : goal.loop-s-preserved
 loop-s-preserved c =
     (omega (arith, c.in-Some.ensures.steps.1.less, c.loop-s.invariant.0), simp length-set c.loop-s.invariant.1)
-
-pub returns : goal.returns
-returns c = c.loop-s.invariant.1

@@ -6,26 +6,11 @@ use Rattle.search.proofs.ways.leave.Goals as goal
 pub loop-s-init : goal.loop-s-init
 loop-s-init c = rw c.into_iter-s-iterator.ensures.into_iter_gives (rw c.members-s-items.ensures (c.requires.0, c.requires.2))
 
-pub overflow_add-free : goal.overflow_add-free
-overflow_add-free c = omega (arith, c.in-Some.ensures.steps.1.below 12 c.loop-s.invariant.0)
-
-pub offset_bounds-free-top : goal.offset_bounds-free-top
-offset_bounds-free-top c = omega (arith, c.in-Some.ensures.steps.1.below 12 c.loop-s.invariant.0)
-
 pub bounds-free-top : goal.bounds-free-top
 bounds-free-top c = omega (arith, c.in-Some.ensures.steps.1.below 12 c.loop-s.invariant.0, c.loop-s.invariant.1)
-
-pub overflow_add-free-in-loop-s : goal.overflow_add-free-in-loop-s
-overflow_add-free-in-loop-s c = omega (arith, c.in-Some.ensures.steps.1.below 12 c.loop-s.invariant.0)
-
-pub offset_bounds-free-top-in-loop-s : goal.offset_bounds-free-top-in-loop-s
-offset_bounds-free-top-in-loop-s c = omega (arith, c.in-Some.ensures.steps.1.below 12 c.loop-s.invariant.0)
 
 pub bounds-free-top-in-loop-s : goal.bounds-free-top-in-loop-s
 bounds-free-top-in-loop-s c = omega (arith, c.in-Some.ensures.steps.1.below 12 c.loop-s.invariant.0, c.loop-s.invariant.1)
 
 pub loop-s-preserved : goal.loop-s-preserved
 loop-s-preserved c = (omega (arith, c.in-Some.ensures.steps.1.less), simp length-set c.loop-s.invariant.1)
-
-pub returns : goal.returns
-returns c = c.loop-s.invariant.1
