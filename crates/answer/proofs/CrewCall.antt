@@ -9,10 +9,10 @@ use Rattle.card.specs.declared.refusal.Fault.TheVariants.{Short}
 use Rattle.card.specs.declared.refusal.Refusal.{Refusal}
 use Rattle.remaining.specs.Remaining.{remaining_of}
 use Rattle.sheet.specs.declared.SheetJob.{SheetJob}
-use Rattle.workflow.specs.First.{first_plan}
+use Rattle.workflow.specs.First.{first_plan, found_in}
 use Rattle.instance.specs.Instance.{instance_of, may_of}
 use Rattle.answer.specs.Bytes.{Outcome}
-use Rattle.answer.specs.Crew.{crew_answer, crew_of, found_in, planned}
+use Rattle.answer.specs.Crew.{crew_answer, crew_of, planned}
 use Rattle.answer.specs.Number.{refusal_number, number_of}
 use Rattle.answer.proofs.CrewCases.{crew_read_lem, crew_refused, crew_short, crew_room}
 

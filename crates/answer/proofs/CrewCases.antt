@@ -12,13 +12,13 @@ use Rattle.card.specs.declared.refusal.Fault.TheVariants.{Plan}
 use Rattle.card.specs.declared.refusal.Refusal.{Refusal}
 use Rattle.remaining.proofs.Laws.{read_job_fault}
 use Rattle.answer.proofs.WasRead.{was_job}
-use Rattle.workflow.specs.First.{found, nothing, first_plan, list_of, plan_of}
+use Rattle.workflow.specs.First.{found, nothing, first_plan, list_of, plan_of, found_in}
 use Rattle.workflow.proofs.Lists.{plan_of-list_of}
 use Rattle.instance.specs.Instance.{instance_of, may_of, crew_tags}
 use Rattle.answer.specs.Bytes.{refused, written}
 use Rattle.answer.specs.Number.{refusal_number, number_of}
 use Rattle.card.specs.Refusals.{short_fault, plan_fault, fault_number}
-use Rattle.answer.specs.Crew.{crew_answer, crew_read, crew_of, found_in, planned}
+use Rattle.answer.specs.Crew.{crew_answer, crew_read, crew_of, planned}
 
 module _ (s buffer : List ℕ) where
   -- a sheet that was read

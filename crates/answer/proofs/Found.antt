@@ -8,11 +8,11 @@ use Rattle.std.specs.Prelude.{Option, Some, None}
 use Rattle.sheet.specs.Readable.{ReadableJob}
 use Rattle.sheet.specs.declared.SheetJob.{SheetJob}
 use Rattle.workflow.specs.Problem.{Job, May, OfPeople}
-use Rattle.workflow.specs.First.{list_of, plan_of, first_plan}
+use Rattle.workflow.specs.First.{list_of, plan_of, first_plan, found_in}
 use Rattle.workflow.proofs.First.{first_plan_found}
 use Rattle.workflow.proofs.Lists.{plan_of-list_of}
 use Rattle.instance.specs.Instance.{instance_of, may_of}
-use Rattle.answer.specs.Crew.{found_in, StaffedIn}
+use Rattle.answer.specs.Crew.{StaffedIn}
 
 pub found_within : (j : Job) (may : May) (o : Option (List ℕ)) → first_plan j may ≡ found_in j.steps o → {plan : List ℕ} → o ≡ Some plan → OfPeople j (plan_of plan)
 found_within j may o is {plan} w s l =

@@ -4,16 +4,11 @@ use Rattle.remaining.specs.Remaining.{steps_left, job_left}
 use Rattle.sheet.specs.Read.{Read, job, fault, read_sheet}
 use Rattle.sheet.specs.declared.SheetJob as sheet
 use Rattle.workflow.specs.Problem.{Job}
-use Rattle.workflow.specs.First.{Found, found, nothing, first_plan, list_of, plan_of}
+use Rattle.workflow.specs.First.{Found, found, nothing, first_plan, list_of, plan_of, found_in}
 use Rattle.instance.specs.Instance.{instance_of, may_of, crew_tags}
 use Rattle.instance.specs.Figures.{Staffed}
 use Rattle.card.specs.Refusals.{short_fault, plan_fault}
 use Rattle.answer.specs.Bytes.{Outcome, refused, written}
-
--- what a plan that is there or not says was found; the people of the first `steps` steps, or nothing
-abbrev pub found_in : ℕ → Option (List ℕ) → Found
-found_in steps (Some plan) = found (list_of steps (plan_of plan))
-found_in steps None = nothing
 
 -- a plan that is there has a place in the table of people for each step
 abbrev pub StaffedIn : ℕ → Option (List ℕ) → Type 0

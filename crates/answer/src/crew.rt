@@ -1,9 +1,10 @@
 // The answer of a crew call, once it is known whether there is a plan: the crew in the caller's buffer, 8 bytes a step, or a refusal.
+ghost use Rattle.workflow.specs.First.{found_in};
 ghost use Rattle.std.specs.Prelude.{◌++◌, ◌≡◌, ◌*◌, ◌≤◌, length, drop};
 ghost use Rattle.instance.specs.Instance.{crew_tags};
 ghost use Rattle.instance.specs.Figures.{Staffed};
 ghost use Rattle.answer.specs.Bytes.{written};
-ghost use Rattle.answer.specs.Crew.{found_in, planned, StaffedIn};
+ghost use Rattle.answer.specs.Crew.{planned, StaffedIn};
 ghost use Rattle.answer.specs.Number.{number_of};
 
 use super::bytes::put_long;

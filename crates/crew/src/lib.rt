@@ -3,9 +3,9 @@
 
 ghost use Rattle.std.specs.Prelude.{◌≡◌};
 ghost use Rattle.sheet.specs.Readable.{ReadableJob};
-ghost use Rattle.workflow.specs.First.{first_plan};
+ghost use Rattle.workflow.specs.First.{first_plan, found_in};
 ghost use Rattle.instance.specs.Instance.{instance_of, may_of};
-ghost use Rattle.answer.specs.Crew.{crew_answer, found_in, StaffedIn};
+ghost use Rattle.answer.specs.Crew.{crew_answer, StaffedIn};
 ghost use Rattle.answer.specs.Number.{number_of};
 
 use answer::crew::answer_crew;
@@ -23,8 +23,7 @@ pub fn plan_job(job: &SheetJob) -> Option<Plan>
         × StaffedIn job.now.steps result }
 {
     let may = may_masks(&job.permitted, job.people);
-    let planned = first_plan(pose(*job, job.people, job.steps, job.rules), &may);
-    planned.found.then_some(planned.plan)
+    first_plan(&pose(job), &may)
 }
 
 // The crew call. Every byte of the buffer and the number of the answer are what `crew_answer` gives.

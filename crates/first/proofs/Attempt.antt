@@ -5,11 +5,11 @@ use mathlib.Core.Path.{◌≡◌, refl}
 use Prim.Native.Nat.{ℕ}
 use Rattle.std.specs.Prelude.{Option, None, Some, Ok}
 use Rattle.workflow.specs.Problem.{Job}
-use Rattle.workflow.specs.First.{first_plan}
+use Rattle.workflow.specs.First.{first_plan, found_in}
 use Rattle.workflow.proofs.First.{first_plan_given, no_valid_plan}
 use Rattle.pattern.specs.Tables.{may_in, plan_in}
 use Rattle.backtrack.specs.Trial.{Trial}
-use Rattle.first.specs.Settle.{found_in}
+
 
 pub first_tried : (j : Job) (may : List ℕ) (o : Option (List ℕ)) → Trial true j may (Ok o) → first_plan j (may_in may) ≡ found_in j.steps o
 unfolding Trial

@@ -20,7 +20,7 @@ use Rattle.bits.proofs.Masks.{taken_was}
 use Rattle.bits.proofs.SetLaws.{zero_empty, mod-bit, removed_other}
 use Rattle.workflow.specs.Problem.{Job, May, Plan, Valid}
 use Rattle.std.specs.Prelude.{None, Some}
-use Rattle.workflow.specs.First.{nothing, first_plan, found_as}
+use Rattle.workflow.specs.First.{nothing, first_plan, found_as, found_in}
 use Rattle.workflow.proofs.First.{no_valid_plan}
 use Rattle.pattern.specs.Tables.{may_in, plan_in}
 use Rattle.backtrack.proofs.Extending.{own_bit}
@@ -173,7 +173,7 @@ pub settled_next : {j : Job} {s t : ℕ} {may now now' plan plan' : List ℕ} �
 settled_next w x = record { masks = x.masks; sized = x.sized; standing = x.standing; first = x.first ∙ w.first }
 
 -- all steps are settled
-pub settled-all : {j : Job} {s : ℕ} {may now plan : List ℕ} → Settled j s may now plan → j.steps ≤ s → first_plan j (may_in may) ≡ found_as j.steps true plan
+pub settled-all : {j : Job} {s : ℕ} {may now plan : List ℕ} → Settled j s may now plan → j.steps ≤ s → first_plan j (may_in may) ≡ found_in j.steps (Some plan)
 settled-all {j} {s} {may} {now} {plan} w l =
     sym w.first
     ∙ standing_first j (may_in now) (plan_in plan)

@@ -1,13 +1,8 @@
 -- The first plan, settled step by step: the people permitted are narrowed, and the first plan stays the same. Assumes nothing.
 use Rattle.std.specs.Prelude.{Option, None, Some, true, List, ◌≡◌, ℕ, ◌<◌, length}
 use Rattle.workflow.specs.Problem.{Job, May, Plan, Valid}
-use Rattle.workflow.specs.First.{Found, nothing, found_as, first_plan}
+use Rattle.workflow.specs.First.{Found, nothing, first_plan}
 use Rattle.pattern.specs.Tables.{may_in, plan_in}
-
--- an answer: a plan was found, of which the first `steps` steps count, or none
-abbrev pub found_in : ℕ → Option (List ℕ) → Found
-found_in steps None = nothing
-found_in steps (Some plan) = found_as steps true plan
 
 -- a valid plan is in hand, and each step before s is permitted to its person alone
 pub record Standing (j : Job) (may : May) (s : ℕ) (π : Plan) : Type 0 where

@@ -3,10 +3,10 @@
 #![tactic(auto)]
 
 ghost use Rattle.std.specs.Prelude.{◌≡◌, ◌+◌, ◌<◌, length};
-ghost use Rattle.workflow.specs.First.{first_plan};
+ghost use Rattle.workflow.specs.First.{first_plan, found_in};
 ghost use Rattle.pattern.specs.Tables.{may_in, plan_in};
 ghost use Rattle.levels.specs.Tabled.{tabled_job, Ready};
-ghost use Rattle.first.specs.Settle.{found_in, Standing, Settled};
+ghost use Rattle.first.specs.Settle.{Standing, Settled};
 
 use backtrack::{Tired, attempt};
 use bits::set::members;

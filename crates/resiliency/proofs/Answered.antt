@@ -4,19 +4,19 @@ use mathlib.Core.Path.{◌≡◌, refl, sym, ap, ◌∙◌}
 use Prim.Native.Nat.{ℕ, suc, ◌≤◌, ◌<◌}
 use lib.ListN.{length}
 use borrow.Author.Tests.{lt-ltb, le-ltb}
-use Rattle.remaining.proofs.Laws.{read_job_fault}
 use Rattle.remaining.specs.Remaining.{remaining_of, steps_left, job_left}
 use Rattle.answer.specs.Number.{refusal_number, number_of}
-use Rattle.sheet.specs.Readable.{ReadableJob}
 use Rattle.sheet.specs.declared.SheetJob as sheet
-use Rattle.sheet.specs.declared.Sheet.{Sheet}
-use Rattle.sheet.specs.declared.Reading.TheVariants.{Readable, Refused}
-use Rattle.answer.proofs.WasRead.{was_read, was_readable, was_job}
+use Rattle.std.specs.Prelude.{Result, Ok, Err}
+use Rattle.card.specs.declared.refusal.Fault.{Fault}
+use Rattle.card.specs.declared.refusal.Fault.TheVariants.{Short, Cap}
+use Rattle.card.specs.declared.refusal.Refusal.{Refusal}
+use Rattle.answer.proofs.WasRead.{was_refused, was_read, was_job}
 use Rattle.sheet.specs.Read.{job, fault, read_sheet}
 use Rattle.workflow.specs.Problem.{Job, May, Satisfiable}
 use Rattle.instance.specs.Instance.{instance_of, may_of}
 use Rattle.answer.specs.Bytes.{Outcome, refused}
-use Rattle.card.specs.Refusals.{short_fault, cap_fault, plan_fault}
+use Rattle.card.specs.Refusals.{fault_number, short_fault, cap_fault, plan_fault}
 use Rattle.resiliency.specs.Away.{Resilient, FirstBreaking}
 use Rattle.resiliency.specs.Count.{Spare, unsatisfiable, capped, broken, spare, IsSpare}
 use Rattle.resiliency.specs.Spare.{cap_limit, spare_size, count_bytes, spare_bytes, spare_of, spare_read, spare_answer}
@@ -81,32 +81,36 @@ left_same : {o o' : Outcome} {n : ℕ} {bs : List ℕ} → o ≡ o' → Left o' 
 left_same e h = rw e h
 
 module _ (cap : ℕ) (s buffer : List ℕ) where
-  pub left_cap : (m : ℕ) → m ≡ refusal_number cap_fault 0 → cap_limit < cap → Left (spare_answer cap s buffer) m buffer
-  left_cap m e l = left_same (cap_refused cap s buffer l) (record { number = e; bytes = refl })
+  -- a refusal with its number
+  left_fault : (f : Fault) {r : Refusal} → r ≡ record { fault = f; card = 0 } → spare_answer cap s buffer ≡ refused (fault_number f) 0 buffer
+      → Left (spare_answer cap s buffer) (number_of (Err r)) buffer
+  left_fault f e h =
+      left_same h (record { number = ap (λ (x : Refusal). refusal_number (fault_number x.fault) x.card) e; bytes = refl })
 
-  pub left_refused : (a : Sheet) → a ≡ remaining_of s → cap ≤ cap_limit → (f c n : ℕ) → a.reading ≡ Refused f c → n ≡ number_of a.reading
-      → Left (spare_answer cap s buffer) n buffer
-  left_refused a e l f c n d h =
-      left_same (sheet_refused cap s buffer f c l (read_job_fault s f c (sym (ap (λ (x : Sheet). x.reading) e) ∙ d)))
-      (record { number = h ∙ ap number_of d; bytes = refl })
+  pub left_cap : {r : Refusal} → r ≡ record { fault = Cap; card = 0 } → cap_limit < cap → Left (spare_answer cap s buffer) (number_of (Err r)) buffer
+  unfolding fault_number
+  left_cap e l = left_fault Cap e (cap_refused cap s buffer l)
 
-  module _ (a : Sheet) (e : a ≡ remaining_of s) (l : cap ≤ cap_limit) (p n u : ℕ) (d : a.reading ≡ Readable p n u) where
-    pub job_readable : ReadableJob p n u a.job
-    job_readable = was_readable s a e p n u d
+  module _ {a : Result sheet.SheetJob Refusal} (e : a ≡ remaining_of s) (l : cap ≤ cap_limit) where
+    pub left_refused : {r : Refusal} → a ≡ Err r → Left (spare_answer cap s buffer) (number_of (Err r)) buffer
+    left_refused {r} d =
+        left_same (sheet_refused cap s buffer (fault_number r.fault) r.card l (was_refused s e d)) (record { number = refl; bytes = refl })
 
-    pub left_short : (m : ℕ) → m ≡ refusal_number short_fault 0 → length buffer < spare_size → Left (spare_answer cap s buffer) m buffer
-    left_short m q h =
-        let w = was_read s a e p n u d in
-        left_same (buffer_short cap s buffer w.person_cards w.step_cards w.rule_cards l w.read h) (record { number = q; bytes = refl })
+    module _ {j : sheet.SheetJob} (d : a ≡ Ok j) where
+      pub left_short : {r : Refusal} → r ≡ record { fault = Short; card = 0 } → length buffer < spare_size
+          → Left (spare_answer cap s buffer) (number_of (Err r)) buffer
+      unfolding fault_number
+      left_short q h =
+          let w = was_read s e d in left_fault Short q (buffer_short cap s buffer w.person_cards w.step_cards w.rule_cards l w.read h)
 
-    spare_read_lem : spare_answer cap s buffer ≡ spare_of cap p n u a.job buffer
-    unfolding spare_read
-    spare_read_lem =
-        cap_taken cap s buffer l
-        ∙ was_job s a e p n u d (λ (k t r : ℕ) (j : sheet.SheetJob). spare_of cap k t r j buffer) (spare_read cap s buffer) (λ x y z. refl)
+      spare_read_lem : spare_answer cap s buffer ≡ spare_of cap j.people j.steps j.rules j buffer
+      unfolding spare_read
+      spare_read_lem =
+          cap_taken cap s buffer l
+          ∙ was_job s e d (λ (k t r : ℕ) (i : sheet.SheetJob). spare_of cap k t r i buffer) (spare_read cap s buffer) (λ x y z. refl)
 
-    pub left_count : spare_size ≤ length buffer → (r : Spare) (m : ℕ) (bs : List ℕ) → r ≡ spare (instance_of p n u a.job) (may_of a.job) cap
-        → Left (spare_bytes a.job.person_tag cap buffer r) m bs → Left (spare_answer cap s buffer) m bs
-    unfolding spare_of
-    left_count h r m bs x y =
-        left_same (spare_read_lem ∙ rw (le-ltb (length buffer) spare_size h) (ap (spare_bytes a.job.person_tag cap buffer) (sym x))) y
+      pub left_count : spare_size ≤ length buffer → (r : Spare) (m : ℕ) (bs : List ℕ) → r ≡ spare (instance_of j.people j.steps j.rules j) (may_of j) cap
+          → Left (spare_bytes j.person_tag cap buffer r) m bs → Left (spare_answer cap s buffer) m bs
+      unfolding spare_of
+      left_count h r m bs x y =
+          left_same (spare_read_lem ∙ rw (le-ltb (length buffer) spare_size h) (ap (spare_bytes j.person_tag cap buffer) (sym x))) y

@@ -1,6 +1,7 @@
 -- Plans that do without people, and the words that say so. Assumes nothing.
 use mathlib.Core.Bool.{Bool, true, false, not, ◌&&◌, ◌||◌}
 use mathlib.Core.List.{List}
+use Rattle.std.specs.Prelude.{None, Some}
 use mathlib.Core.Path.{◌≡◌, refl, sym, subst, ap, ◌∙◌}
 use Prim.Native.Nat.{ℕ, zero, suc, ◌+◌, ◌*◌, ◌/◌, ◌%◌, ◌≤◌, ◌<◌}
 use native.Mathlib.Omega.{arith}
@@ -33,24 +34,10 @@ without_bits x a p = xor_bit (bit_or x a) a p ∙ ap (λ (b : Bool). unlike b (h
     cases false true = refl
     cases false false = refl
 
-module _ (may : List ℕ) (away : ℕ) where
-  pub remaining_none : (rest : List ℕ) → length rest ≡ 12 → Remaining may away 0 rest
-  remaining_none rest l = record { sized = l; each = λ s p h. absurd (not-suc-le-zero h) }
-
-  pub remaining_more : (n : ℕ) (rest : List ℕ) → n < 12 → Remaining may away n rest
-      → Remaining may away (n + 1) (set rest n (bit_xor (bit_or (get_or may n 0) away) away))
-  remaining_more n rest l r =
-      let z = r.sized in
-      record {
-        sized = length-set rest n _ ∙ z;
-        each = λ s p h.
-            below_suc n s (subst (λ (x : ℕ). s < x) (add-one n) h)
-            (λ q. ap (λ (x : ℕ). has_bit x p) (get_or-set_other rest n s _ 0 (omega arith)) ∙ r.each s p q)
-            (λ e. rw e (ap (λ (x : ℕ). has_bit x p) (get_or-set_same rest n _ 0 (omega arith)) ∙ without_bits (get_or may n 0) away p));
-      }
-
-pub remaining_all : (may rest : List ℕ) (away n : ℕ) → n ≤ 12 → 12 ≤ n → Remaining may away n rest → Remaining may away 12 rest
-remaining_all may rest away n a b k = let e : n ≡ 12 = omega arith in subst (λ (x : ℕ). Remaining may away x rest) e k
+pub remaining_all : (may rest : List ℕ) (away : ℕ) → length rest ≡ 12
+    → ((s : ℕ) → s < 12 → get_or rest s 0 ≡ bit_xor (bit_or (get_or may s 0) away) away) → Remaining may away 12 rest
+remaining_all may rest away l h =
+    record { sized = l; each = λ s p b. ap (λ (x : ℕ). has_bit x p) (h s b) ∙ without_bits (get_or may s 0) away p }
 
 -- ---- the people of a plan
 
@@ -234,32 +221,32 @@ part_next word h d i l = h i (removed_was d i l)
 -- ---- a search among the people left
 
 -- the people of the plan found
-pub found_people : {j : Job} {may : May} {plan plan' : List ℕ} {r : Bool} → Existence j may plan plan' r → r ≡ true → j.people ≤ 64
-    → (s : ℕ) → s < j.steps → get_or plan' s 0 < 64
-found_people {plan' = plan'} x e l s b = let w : plan_in plan' s < _ = (x.won e).within s b in omega arith
+pub found_people : {j : Job} {may : May} (plan : List ℕ) → Existence j may (Some plan) → j.people ≤ 64
+    → (s : ℕ) → s < j.steps → get_or plan s 0 < 64
+found_people plan x l s b = let w : plan_in plan s < _ = x.1.within s b in omega arith
 
-module _ {j : Job} {may rest : List ℕ} {away : ℕ} {plan plan' : List ℕ} {r : Bool} where
+module _ {j : Job} {may rest : List ℕ} {away : ℕ} where
   pub searched_lost : {words plans weight : List ℕ} {needs : ℕ} → Known j (may_in may) words plans → Remaining may away 12 rest → j.steps ≤ 12
-      → Existence j (may_in rest) plan plan' r → r ≡ false → length weight ≡ 12 → Stood j (may_in may) (has_bit away) words plans weight false needs
-  searched_lost k m l x e w =
+      → Existence j (may_in rest) None → length weight ≡ 12 → Stood j (may_in may) (has_bit away) words plans weight false needs
+  searched_lost k m l x w =
       record {
         known = k;
         weights = w;
         won = λ t. true-false t refl;
-        lost = λ t v. x.lost e (satisfiable_mono j (without (may_in may) (has_bit away)) (may_in rest) (λ s p b c h. m.each s p (omega arith) ∙ h) v);
+        lost = λ t v. x (satisfiable_mono j (without (may_in may) (has_bit away)) (may_in rest) (λ s p b c h. m.each s p (omega arith) ∙ h) v);
       }
 
-  pub searched_won : {words words' plans plans' weight : List ℕ} {mask : ℕ} → Known j (may_in may) words plans
-      → Remaining may away 12 rest → j.steps ≤ 12 → Existence j (may_in rest) plan plan' r → r ≡ true
-      → KeptPlan j.steps plan' mask words plans words' plans'
+  pub searched_won : (plan : List ℕ) {words words' plans plans' weight : List ℕ} {mask : ℕ} → Known j (may_in may) words plans
+      → Remaining may away 12 rest → j.steps ≤ 12 → Existence j (may_in rest) (Some plan)
+      → KeptPlan j.steps plan mask words plans words' plans'
       → length weight ≡ 12 → Stood j (may_in may) (has_bit away) words' plans' weight true mask
-  searched_won {words} {words'} {plans} {plans'} {mask = mask} k m l x e u w =
-      let v : Valid j (without (may_in may) (has_bit away)) (plan_in plan')
-      = valid_mono j (may_in rest) (without (may_in may) (has_bit away)) (plan_in plan') (λ s p b c h. sym (m.each s p (omega arith)) ∙ h) (x.won e)
+  searched_won plan {words} {words'} {plans} {plans'} {mask = mask} k m l x u w =
+      let v : Valid j (without (may_in may) (has_bit away)) (plan_in plan)
+      = valid_mono j (may_in rest) (without (may_in may) (has_bit away)) (plan_in plan) (λ s p b c h. sym (m.each s p (omega arith)) ∙ h) x.1
       in
       record {
-        known = known_kept j (may_in may) plan' words words' plans plans' mask k (without-valid j (may_in may) (has_bit away) (plan_in plan') v) u;
+        known = known_kept j (may_in may) plan words words' plans plans' mask k (without-valid j (may_in may) (has_bit away) (plan_in plan) v) u;
         weights = w;
-        won = λ t. (plan_in plan', v, u.needs.each);
+        won = λ t. (plan_in plan, v, u.needs.each);
         lost = λ t. true-false refl t;
       }

@@ -1,5 +1,5 @@
 -- The sizes one after the other, and what the whole walk comes to. Assumes nothing.
-use mathlib.Core.Bool.{Bool, true, false}
+use mathlib.Core.Bool.{Bool}
 use mathlib.Core.List.{List, []}
 use mathlib.Core.Path.{◌≡◌, refl, sym, ap, subst, ◌∙◌}
 use Prim.Native.Nat.{ℕ, suc, ◌+◌, ◌-◌, ◌≤◌, ◌<◌}
@@ -85,22 +85,22 @@ module _ (j : Job) (may : May) where
 
 module _ {j : Job} {may : May} where
   -- no plan with everyone present
-  pub spare_none : {plan plan' : List ℕ} {r : Bool} (cap : ℕ) → Existence j may plan plan' r → r ≡ false → told Unsatisfiable ≡ spare j may cap
-  spare_none cap x e = sym (spare_unique j may cap unsatisfiable (x.lost e))
+  pub spare_none : (cap : ℕ) → Existence j may None → told Unsatisfiable ≡ spare j may cap
+  spare_none cap x = sym (spare_unique j may cap unsatisfiable x)
 
   -- a plan with everyone present
-  pub spare-walk : {plan plan' : List ℕ} {r : Bool} (cap : ℕ) → Existence j may plan plan' r → r ≡ true → spare j may cap ≡ count_from j may cap 0
+  pub spare-walk : (plan : List ℕ) (cap : ℕ) → Existence j may (Some plan) → spare j may cap ≡ count_from j may cap 0
   unfolding spare
-  spare-walk cap x e =
-      found_cases (first_plan j may) (λ xs d. rw d refl) (λ d. absurd (first_plan_nothing j may d _ (x.won e)))
+  spare-walk plan cap x =
+      found_cases (first_plan j may) (λ xs d. rw d refl) (λ d. absurd (first_plan_nothing j may d _ x.1))
 
   -- the first plan is known
-  pub known_first : {plan plan' words plans : List ℕ} {r : Bool} {mask : ℕ} → Existence j may plan plan' r → r ≡ true → j.people ≤ 64
-      → KeptPlan j.steps plan' mask (replicate {A = ℕ} 64 0) (replicate {A = ℕ} 64 18446744073709551615) words plans
+  pub known_first : (plan : List ℕ) {words plans : List ℕ} {mask : ℕ} → Existence j may (Some plan) → j.people ≤ 64
+      → KeptPlan j.steps plan mask (replicate {A = ℕ} 64 0) (replicate {A = ℕ} 64 18446744073709551615) words plans
       → Known j may words plans
-  known_first {plan' = plan'} {words} {plans} {mask = mask} x e l u =
-      known_kept j may plan' (replicate {A = ℕ} 64 0) words (replicate {A = ℕ} 64 18446744073709551615) plans mask
-      (known_zero j may (plan_in plan') (x.won e) l) (x.won e) u
+  known_first plan {words} {plans} {mask = mask} x l u =
+      known_kept j may plan (replicate {A = ℕ} 64 0) words (replicate {A = ℕ} 64 18446744073709551615) plans mask
+      (known_zero j may (plan_in plan) x.1 l) x.1 u
 
 -- jobs of as many people and steps with the same valid plans have the same spare count
 module _ (j k : Job) (may more : May) (steps : j.steps ≡ k.steps) (people : j.people ≡ k.people)

@@ -5,9 +5,12 @@ use Prim.Native.Nat.{ℕ, zero, suc, ◌-◌, ◌≤◌, ◌<◌}
 use native.Mathlib.Omega.{arith}
 use native.Mathlib.Nat.{not-suc-le-zero}
 use lib.ListN.{length, drop, get_or}
-use Rattle.card.specs.Refusals.{plan_fault}
+use Rattle.std.specs.Prelude.{Err}
+use Rattle.card.specs.Refusals.{fault_number}
+use Rattle.card.specs.declared.refusal.Fault.TheVariants.{Plan}
+use Rattle.card.specs.declared.refusal.Refusal.{Refusal}
 use Rattle.answer.specs.Bytes.{long_bytes, put_at, written}
-use Rattle.answer.specs.Number.{refusal_number}
+use Rattle.answer.specs.Number.{refusal_number, number_of}
 use Rattle.answer.proofs.Put.{put_next}
 use Rattle.resiliency.specs.Known.{told}
 use Rattle.resiliency.specs.Group.{members_in, Sized}
@@ -72,9 +75,11 @@ module _ (tags : List ℕ) where
 
 -- what is left, for each answer
 module _ (tags out bs : List ℕ) (cap : ℕ) (r : Spared) where
-  pub left_none : (n : ℕ) → n ≡ refusal_number plan_fault 0 → r ≡ Unsatisfiable → Left (spare_bytes tags cap out (told r)) n out
-  unfolding spare_bytes
-  left_none n d e = rw e (record { number = d; bytes = refl })
+  pub left_none : {f : Refusal} → f ≡ record { fault = Plan; card = 0 } → r ≡ Unsatisfiable
+      → Left (spare_bytes tags cap out (told r)) (number_of (Err f)) out
+  unfolding spare_bytes fault_number
+  left_none d e =
+      rw e (record { number = ap (λ (x : Refusal). refusal_number (fault_number x.fault) x.card) d; bytes = refl })
 
   pub left_capped : cap ≤ 3 → r ≡ Capped → bs ≡ written (cap ∷ 0 ∷ 0 ∷ 0 ∷ []) ++ drop 16 out → Left (spare_bytes tags cap out (told r)) 0 bs
   unfolding spare_bytes away_tags

@@ -1,6 +1,7 @@
 // The spare call: a sheet, a buffer and a cap become a number and 16 bytes.
 ghost use Rattle.std.specs.Prelude.{[], ◌∷◌, ◌++◌, ◌≡◌, ◌≤◌, length, drop, get_or};
 ghost use Rattle.answer.specs.Bytes.{written};
+ghost use Rattle.answer.specs.Number.{number_of};
 ghost use Rattle.resiliency.specs.Group.{members_in, Sized};
 ghost use Rattle.resiliency.specs.Known.{told};
 ghost use Rattle.resiliency.specs.Spare.{away_tags, spare_bytes, spare_answer};
@@ -10,11 +11,9 @@ use super::Spared;
 use super::group::{Group, MOST_AWAY};
 use super::job::job_count;
 use answer::bytes::put_long;
-use answer::{number, returned};
 use bits::sizes::MOST_PEOPLE;
-use card::refusal::{CAP_FAULT, PLAN_FAULT, SHORT_FAULT};
+use card::refusal::{Fault, Refusal};
 use remaining::read_job;
-use sheet::Reading;
 
 // The bytes of a spare count.
 const SPARE_BYTES: usize = 16;
@@ -41,52 +40,43 @@ fn tag_at(tag: &[u32; MOST_PEOPLE], group: Group, k: usize) -> u32
     0
 }
 
-// Writes the count and the tags of the group, and gives the number.
-fn write_count(tag: &[u32; MOST_PEOPLE], cap: u32, count: Spared, out: &mut [u8]) -> u32
+// Writes the count and the tags of the group, or refuses a job that has no plan.
+fn write_count(
+    tag: &[u32; MOST_PEOPLE],
+    cap: u32,
+    count: Spared,
+    out: &mut [u8],
+) -> Result<(), Refusal>
     requires { (length tag.now ≡ 64) × (cap ≤ 3) × (16 ≤ length out.old) × Groups count }
-    ensures { Left (spare_bytes tag.now cap out.old (told count)) result out.new }
+    ensures { Left (spare_bytes tag.now cap out.old (told count)) (number_of result) out.new }
 {
     match count {
-        Spared::Capped => {
-            put_four(out, cap, 0, 0, 0);
-            0
-        }
-        Spared::Unsatisfiable => returned(PLAN_FAULT, 0),
+        Spared::Capped => put_four(out, cap, 0, 0, 0),
+        Spared::Unsatisfiable => return Err(Fault::Plan.on(0)),
         Spared::Broken(group) => {
             let fewer = group.size as u32 - 1;
             let first = tag_at(tag, group, 0);
             let second = tag_at(tag, group, 1);
             let third = tag_at(tag, group, 2);
             put_four(out, fewer, first, second, third);
-            0
         }
     }
+    Ok(())
 }
 
-// The spare call.
-pub fn spare(sheet: &[u8], answer: &mut [u8], cap: u32) -> u32
-    ensures { Left (spare_answer cap sheet.now answer.old) result answer.new }
+// The spare call. Every byte of the buffer and the number of the answer are what `spare_answer` gives.
+pub fn spare(sheet: &[u8], answer: &mut [u8], cap: u32) -> Result<(), Refusal>
+    ensures { Left (spare_answer cap sheet.now answer.old) (number_of result) answer.new }
 {
     let over = cap as usize > MOST_AWAY;
     if over {
-        return returned(CAP_FAULT, 0);
+        return Err(Fault::Cap.on(0));
     }
-    let read = read_job(sheet);
-    let reading = read.reading;
-    let Reading::Readable {
-        people,
-        steps,
-        rules,
-    } = reading
-    else {
-        return number(reading);
-    };
+    let job = read_job(sheet)?;
     let short = answer.len() < SPARE_BYTES;
     if short {
-        return returned(SHORT_FAULT, 0);
+        return Err(Fault::Short.on(0));
     }
-    let job = read.job;
-    let tag = job.person_tag;
-    let count = job_count(job, people, steps, rules, cap as usize);
-    write_count(&tag, cap, count, answer)
+    let count = job_count(&job, cap as usize);
+    write_count(&job.person_tag, cap, count, answer)
 }

@@ -11,7 +11,7 @@ use crate::group::Group;
 use crate::known::{Kept, keep_plan};
 use crate::walk::first_group;
 use bits::set::ALL;
-use bits::sizes::{Domains, MOST_PEOPLE, MOST_STEPS};
+use bits::sizes::{Domains, MOST_PEOPLE};
 use levels::Tables;
 use search::exists::exists;
 use search::weights::weights;
@@ -36,10 +36,9 @@ pub fn spare_count(tables: &Tables, may: &Domains, cap: usize) -> Spared
     ensures { (told result ≡ spare (tabled_job tables.now) (may_in may.now) cap) × Groups result }
 {
     let mut weight = weights(&tables.of);
-    let mut plan = [0u8; MOST_STEPS];
-    if !exists(*tables, may, &mut weight, &mut plan) {
+    let Some(plan) = exists(tables, may, &mut weight) else {
         return Spared::Unsatisfiable;
-    }
+    };
     let mut kept = Kept {
         known: [0; MOST_PEOPLE],
         plans: [ALL; MOST_PEOPLE],

@@ -2,7 +2,7 @@
 ghost use Rattle.std.specs.Prelude.{[], ◌∷◌, ◌++◌, ◌≡◌, suc, ◌<◌, length};
 ghost use Rattle.resiliency.specs.Group.{members_in, Sized, Suiting, Masking};
 
-use bits::set::{ALL, with};
+use bits::set::{ALL, Set};
 use bits::sizes::MOST_PEOPLE;
 
 // How many people stay away at most.
@@ -44,7 +44,7 @@ impl Group {
     {
         let mut people: u64 = 0;
         for p in &self.member[..self.size] {
-            people = with(people, *p as usize);
+            people = people.with(*p as usize);
         }
         people
     }

@@ -11,10 +11,10 @@ use super::count::spare_count;
 use sheet::SheetJob;
 use tables::{may_masks, pose};
 
-pub fn job_count(job: SheetJob, people: usize, steps: usize, rules: usize, cap: usize) -> Spared
-    requires { ReadableJob people steps rules job × (cap ≤ 3) }
-    ensures { (told result ≡ spare (instance_of people steps rules job) (may_of job) cap) × Groups result }
+pub fn job_count(job: &SheetJob, cap: usize) -> Spared
+    requires { ReadableJob job.now.people job.now.steps job.now.rules job.now × (cap ≤ 3) }
+    ensures { (told result ≡ spare (instance_of job.now.people job.now.steps job.now.rules job.now) (may_of job.now) cap) × Groups result }
 {
-    let may = may_masks(&job.permitted, people);
-    spare_count(&pose(job, people, steps, rules), &may, cap)
+    let may = may_masks(&job.permitted, job.people);
+    spare_count(&pose(job), &may, cap)
 }

@@ -6,7 +6,7 @@ ghost use Rattle.levels.specs.Tabled.{Ready};
 ghost use Rattle.resiliency.specs.Known.{Remaining, Uses, Noted, Moved, Needed, KeptPlan, Keeping, Asked};
 
 use super::varied::varied;
-use bits::set::{has, take, with};
+use bits::set::{Set, members};
 use bits::sizes::{Domains, MOST_PEOPLE, MOST_STEPS, Plan, Weights};
 use levels::Tables;
 
@@ -26,11 +26,7 @@ fn remaining(may: &Domains, away: u64) -> [u64; MOST_STEPS]
     requires { length may.now ≡ 12 }
     ensures { Remaining may.now away 12 result }
 {
-    let mut rest = [0u64; MOST_STEPS];
-    for s in 0..MOST_STEPS {
-        rest[s] = (may[s] | away) ^ away;
-    }
-    rest
+    may.map(|people| (people | away) ^ away)
 }
 
 // The people of a plan.
@@ -40,20 +36,20 @@ fn people_of(steps: usize, plan: &Plan) -> u64
 {
     let mut mask: u64 = 0;
     for s in 0..steps {
-        mask = with(mask, plan[s] as usize);
+        mask = mask.with(plan[s] as usize);
     }
     mask
 }
 
 // Puts a plan of these people in front of the kept ones, in each person's word: bit 0 says whether it does
 // without that person. The last plan goes.
-fn note(mask: u64, known: &mut [u64; 64])
+fn note(mask: u64, known: &mut [u64; MOST_PEOPLE])
     requires { length known.old ≡ 64 }
     ensures { Noted mask 64 known.old known.new }
 {
-    for p in 0..64usize {
+    for p in 0..MOST_PEOPLE {
         let moved = (known[p] & ALL_BUT_LAST) * 2;
-        if has(mask, p) {
+        if mask.has(p) {
             known[p] = moved;
             continue;
         }
@@ -62,12 +58,12 @@ fn note(mask: u64, known: &mut [u64; 64])
 }
 
 // The same for the people of the plans.
-fn put_first(mask: u64, plans: &mut [u64; 64])
+fn put_first(mask: u64, plans: &mut [u64; MOST_PEOPLE])
     requires { length plans.old ≡ 64 }
     ensures { Moved mask 64 plans.old plans.new }
 {
     let mut next = mask;
-    for i in 0..64usize {
+    for i in 0..MOST_PEOPLE {
         let here = plans[i];
         plans[i] = next;
         next = here;
@@ -75,7 +71,12 @@ fn put_first(mask: u64, plans: &mut [u64; 64])
 }
 
 // Keeps a plan, in front of the others, and gives its people.
-pub fn keep_plan(steps: usize, plan: &Plan, known: &mut [u64; 64], plans: &mut [u64; 64]) -> u64
+pub fn keep_plan(
+    steps: usize,
+    plan: &Plan,
+    known: &mut [u64; MOST_PEOPLE],
+    plans: &mut [u64; MOST_PEOPLE],
+) -> u64
     requires { (steps ≤ 12) × (length plan.now ≡ 12) × ((s : ℕ) → s < steps → get_or plan.now s 0 < 64)
         × (length known.old ≡ 64) × (length plans.old ≡ 64) }
     ensures { KeptPlan steps plan.now result known.old plans.old known.new plans.new }
@@ -87,19 +88,15 @@ pub fn keep_plan(steps: usize, plan: &Plan, known: &mut [u64; 64], plans: &mut [
 }
 
 // Those of some people whom each kept plan of a word needs.
-pub fn needed(word: u64, plans: &[u64; 64], among: u64) -> u64
+pub fn needed(word: u64, plans: &[u64; MOST_PEOPLE], among: u64) -> u64
     requires { length plans.now ≡ 64 }
     ensures { Needed word plans.now among result }
 {
-    let mut left = word;
     let mut rest = among;
-    while rest != 0 {
-        if left == 0 {
+    for i in members(word) {
+        if rest == 0 {
             return rest;
         }
-        let next = take(left);
-        left = next.rest;
-        let i = next.first;
         rest = rest & plans[i];
     }
     rest
@@ -111,10 +108,7 @@ pub fn searched(tables: &Tables, may: &Domains, away: u64, kept: &mut Kept) -> O
     ensures { Asked tables.now may.now (has_bit away) kept.new result }
 {
     let rest = remaining(may, away);
-    let mut plan = [0u8; MOST_STEPS];
-    if !varied(*tables, &rest, &kept.plans, &mut kept.weight, &mut plan) {
-        return None;
-    }
+    let plan = varied(tables, &rest, &kept.plans, &mut kept.weight)?;
     let needs = keep_plan(tables.size.steps, &plan, &mut kept.known, &mut kept.plans);
     Some(needs)
 }

@@ -6,9 +6,9 @@ ghost use Rattle.pattern.specs.Tables.{may_in};
 ghost use Rattle.search.specs.Existence.{Existence};
 ghost use Rattle.resiliency.specs.Varied.{Fresh};
 
-use backtrack::{Tried, attempt};
+use backtrack::attempt;
 use bits::set::ALL;
-use bits::sizes::{Domains, MOST_STEPS, Plan, Weights};
+use bits::sizes::{Domains, MOST_PEOPLE, MOST_STEPS, Plan, Weights};
 use levels::Tables;
 use search::exists::exists;
 
@@ -16,7 +16,7 @@ use search::exists::exists;
 const EFFORT: u32 = 100;
 
 // The people of a kept plan, or nobody where there is none yet.
-fn people_at(i: usize, plans: &[u64; 64]) -> u64
+fn people_at(i: usize, plans: &[u64; MOST_PEOPLE]) -> u64
     requires { (i < 64) × (length plans.now ≡ 64) }
 {
     let mask = plans[i];
@@ -31,49 +31,30 @@ fn fresh(may: &Domains, used: u64) -> [u64; MOST_STEPS]
     requires { length may.now ≡ 12 }
     ensures { Fresh 12 may.now result }
 {
-    let mut rest = [0u64; MOST_STEPS];
-    for s in 0..MOST_STEPS {
-        let new = (may[s] | used) ^ used;
-        if new == 0 {
-            rest[s] = may[s];
-            continue;
-        }
-        rest[s] = new;
-    }
-    rest
+    may.map(|people| {
+        let new = (people | used) ^ used;
+        if new == 0 { people } else { new }
+    })
 }
 
-// Whether there is a valid plan; `plan` is then one, of nobody of the three newest plans where that is
-// found at once.
+// A valid plan, where there is one: of nobody of the three newest plans where that is found at once.
 pub fn varied(
-    tables: Tables,
+    tables: &Tables,
     may: &Domains,
-    plans: &[u64; 64],
+    plans: &[u64; MOST_PEOPLE],
     weight: &mut Weights,
-    plan: &mut Plan,
-) -> bool
-    requires { Ready tables × (length may.now ≡ 12) × (length plans.now ≡ 64) × (length weight.old ≡ 12) × (length plan.old ≡ 12) }
-    ensures { Existence (tabled_job tables) (may_in may.now) plan.old plan.new result × (length weight.new ≡ 12) }
+) -> Option<Plan>
+    requires { Ready tables.now × (length may.now ≡ 12) × (length plans.now ≡ 64) × (length weight.old ≡ 12) }
+    ensures { Existence (tabled_job tables.now) (may_in may.now) result × (length weight.new ≡ 12) }
 {
     let used = people_at(0, plans) | people_at(1, plans) | people_at(2, plans);
     if used == 0 {
-        return exists(tables, may, weight, plan);
+        return exists(tables, may, weight);
     }
     let others = fresh(may, used);
-    let mut any = [0u8; MOST_STEPS];
-    let tried = attempt(
-        tables.size,
-        &tables.crowd,
-        &tables.rule,
-        &tables.of,
-        &others,
-        false,
-        EFFORT,
-        &mut any,
-    );
-    let Tried::Found = tried else {
-        return exists(tables, may, weight, plan);
-    };
-    *plan = any;
-    true
+    let tried = attempt(tables, &others, false, EFFORT);
+    if let Ok(Some(plan)) = tried {
+        return Some(plan);
+    }
+    exists(tables, may, weight)
 }

@@ -9,7 +9,7 @@ ghost use Rattle.resiliency.specs.Onward.{FirstFrom};
 
 use crate::group::Group;
 use crate::known::{Kept, needed, searched};
-use bits::set::{below, take, with};
+use bits::set::{Set, members};
 use bits::sizes::Domains;
 use levels::Tables;
 
@@ -25,17 +25,14 @@ fn last_member(
     ensures { Keeping tables.now may.now kept.new × FirstFrom (tabled_job tables.now) (may_in may.now) (members_in away) from 1 result }
 {
     let people = away.set();
-    let among = below(tables.size.people) ^ below(from);
-    let mut rest = needed(away.spared_by(&kept.known), &kept.plans, among);
-    while rest != 0 {
-        let next = take(rest);
-        rest = next.rest;
-        let p = next.first;
-        let stands = searched(tables, may, with(people, p), kept);
+    let among = u64::below(tables.size.people) ^ u64::below(from);
+    let mut rest = members(needed(away.spared_by(&kept.known), &kept.plans, among));
+    while let Some(p) = rest.next() {
+        let stands = searched(tables, may, people.with(p), kept);
         let Some(needs) = stands else {
             return Some(away.and(p));
         };
-        rest = rest & needs;
+        rest.left = rest.left & needs;
     }
     None
 }

@@ -1,5 +1,5 @@
 -- The first valid plan, found by trying every plan in plan order. Assumes nothing.
-use Rattle.std.specs.Prelude.{Bool, true, false, cond, List, [], ◌∷◌, ◌++◌, ◌≡◌, ℕ, zero, suc, ◌<◌, length, get_or}
+use Rattle.std.specs.Prelude.{Option, Some, None, Bool, true, false, cond, List, [], ◌∷◌, ◌++◌, ◌≡◌, ℕ, zero, suc, ◌<◌, length, get_or}
 use Rattle.workflow.specs.Problem.{Job, May, Plan, Valid, valid}
 
 -- the people of steps 0, 1, .. of a plan; or that there is none
@@ -24,6 +24,11 @@ list_of (suc n) π = list_of n π ++ (π n ∷ [])
 abbrev pub found_as : ℕ → Bool → List ℕ → Found
 found_as steps true plan = found (list_of steps (plan_of plan))
 found_as steps false plan = nothing
+
+-- an answer as an option: the people of the first `steps` steps of a plan, or nothing
+abbrev pub found_in : ℕ → Option (List ℕ) → Found
+found_in steps (Some plan) = found (list_of steps (plan_of plan))
+found_in steps None = nothing
 
 -- what f finds at the lowest number below n where it finds something
 unfoldable pub first_of : ℕ → (ℕ → Found) → Found

@@ -1,7 +1,8 @@
 -- `first::from_any` meets its contract: the steps passed are settled, and the first plan is the same. Assumes nothing.
+use Rattle.workflow.specs.First.{found_in}
 use mathlib.Core.Path.{sym, ap, ◌∙◌}
 use native.Mathlib.Omega.{arith}
-use Rattle.first.specs.Settle.{found_in}
+
 use Rattle.first.proofs.Settling.{settled_start, settled_next, settled-all, first_standing, first_none}
 use Rattle.first.proofs.from_any.Goals as goal
 

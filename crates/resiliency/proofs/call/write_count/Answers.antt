@@ -9,7 +9,7 @@ pub returns-in-Capped : goal.returns-in-Capped
 returns-in-Capped c = left_capped _ _ _ _ _ c.requires.1 c.in-Capped.is c.put_four.ensures
 
 pub returns-in-Unsatisfiable : goal.returns-in-Unsatisfiable
-returns-in-Unsatisfiable c = left_none _ _ [] _ _ _ c.returned.ensures c.in-Unsatisfiable.is
+returns-in-Unsatisfiable c = left_none _ _ [] _ _ c.on.ensures c.in-Unsatisfiable.is
 
 pub returns-in-Broken : goal.returns-in-Broken
 returns-in-Broken c =

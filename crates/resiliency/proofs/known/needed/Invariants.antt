@@ -2,8 +2,5 @@ use Rattle.resiliency.specs.Known.{Needed}
 use Rattle.resiliency.proofs.Knowing.{Part}
 use Rattle.resiliency.proofs.known.needed.Given as goal
 
-abbrev pub invariant-loop-rest : goal.invariant-loop-rest
-invariant-loop-rest l = Part l.left l.word × Needed l.word l.plans l.among l.rest
-
-abbrev pub decreases-loop-rest : goal.decreases-loop-rest
-decreases-loop-rest l = l.left
+abbrev pub invariant-loop-i : goal.invariant-loop-i
+invariant-loop-i l = Part l.i-iterator.left l.word × Needed l.word l.plans l.among l.rest

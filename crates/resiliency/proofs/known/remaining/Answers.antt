@@ -1,32 +1,14 @@
--- The invariant: the masks of the steps passed lack the people away. Assumes nothing.
+-- Each mask is left those who are not away. Assumes nothing.
 use native.Mathlib.Omega.{arith}
-use mathlib.Core.Path.{refl}
-use Rattle.resiliency.proofs.Knowing.{remaining_none, remaining_more, remaining_all}
+use lib.Bits.{bit_or, bit_xor}
+use Rattle.std.proofs.Common.{rules, tests}
+use Rattle.search.proofs.Mapped.{mapped}
+use Rattle.resiliency.proofs.Knowing.{remaining_all}
 use Rattle.resiliency.proofs.known.remaining.Goals as goal
 
-pub loop-s-init : goal.loop-s-init
-loop-s-init c = (omega arith, remaining_none _ _ _ refl)
-
-pub offset_bounds-may-s : goal.offset_bounds-may-s
-offset_bounds-may-s c = omega arith
-
-pub bounds-may-s : goal.bounds-may-s
-bounds-may-s c = omega arith
-
-pub offset_bounds-rest-s : goal.offset_bounds-rest-s
-offset_bounds-rest-s c = omega arith
-
-pub bounds-rest-s : goal.bounds-rest-s
-bounds-rest-s c = omega arith
-
-pub overflow_step-s : goal.overflow_step-s
-overflow_step-s c = omega arith
-
-pub loop-s-smaller : goal.loop-s-smaller
-loop-s-smaller c = omega arith
-
-pub loop-s-preserved : goal.loop-s-preserved
-loop-s-preserved c = (omega arith, remaining_more _ _ _ _ (omega arith) c.loop-s.invariant.1)
-
 pub returns : goal.returns
-returns c = remaining_all _ _ _ _ c.loop-s.invariant.0 c.loop-s-test.false c.loop-s.invariant.1
+returns c =
+    let a = c.args in
+    let m = c.map.ensures.items in
+    remaining_all a.may.now c.map.result a.away m.long
+    (λ s l. mapped (λ x. bit_xor (bit_or x a.away) a.away) (λ x b q k. search (rules, tests)) a.may.now c.map.result 0 12 m.each s (omega arith) (omega arith))

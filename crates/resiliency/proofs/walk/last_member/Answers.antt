@@ -16,37 +16,38 @@ below-requires c = c.requires.0.tabled.given.few_people
 pub below-requires-2 : goal.below-requires-2
 below-requires-2 c = omega (arith, c.requires.5, c.requires.0.tabled.given.few_people)
 
-pub loop-rest-init : goal.loop-rest-init
-loop-rest-init c =
+pub loop-p-init : goal.loop-p-init
+loop-p-init c =
     let k = c.requires.2 in
-    trying_start k.known k.weights c.requires.5
+    rw c.members-rest.ensures
+    (trying_start k.known k.weights c.requires.5
     (suits_group k.known (members_in c.args.away) c.set-people.result c.spared_by.result c.requires.3.people c.set-people.ensures c.spared_by.ensures)
-    (range_above c.requires.5 c.below.ensures c.below-2.ensures) c.needed-rest.ensures
+    (range_above c.requires.5 c.below.ensures c.below-2.ensures) c.needed.ensures)
 
 pub searched-stands-requires : goal.searched-stands-requires
 searched-stands-requires c =
-    (c.requires.0, c.requires.1, record { known = c.loop-rest.invariant.known; weights = c.loop-rest.invariant.weights })
+    (c.requires.0, c.requires.1, record { known = c.loop-p.invariant.known; weights = c.loop-p.invariant.weights })
 
-pub loop-rest-smaller : goal.loop-rest-smaller
-loop-rest-smaller c = taken_part_less c.take-next.ensures.1 _
+pub loop-p-smaller : goal.loop-p-smaller
+loop-p-smaller c = taken_part_less c.in-Some.ensures.steps.1 _
 
-pub loop-rest-preserved : goal.loop-rest-preserved
-loop-rest-preserved c =
-    trying_next c.loop-rest.invariant c.take-next.ensures.1 c.with.ensures c.in-Some.ensures refl
+pub loop-p-preserved : goal.loop-p-preserved
+loop-p-preserved c =
+    trying_next c.loop-p.invariant c.in-Some.ensures.steps.1 c.with.ensures c.in-Some-stands.ensures refl
 
-pub returns-in_default : goal.returns-in_default
-returns-in_default c =
-    let s = trying_found c.loop-rest.invariant c.take-next.ensures.1 c.with.ensures c.in_default.ensures refl in
+pub returns-in_default-stands : goal.returns-in_default-stands
+returns-in_default-stands c =
+    let s = trying_found c.loop-p.invariant c.in-Some.ensures.steps.1 c.with.ensures c.in_default-stands.ensures refl in
     let n = members_count c.args.away c.requires.3 in (
       record { known = s.known; weights = s.weights },
       last_first (tabled_job c.args.tables.now) (may_in c.args.may.now) (members_in c.args.away) c.args.from c.and.result c.set-people.ensures.each s
-          (c.loop-rest.invariant.within c.take-next.result.first c.take-next.ensures.1.lowest.has).1
+          (c.loop-p.invariant.within c.in-Some.p c.in-Some.ensures.steps.1.lowest.has).1
           c.and.ensures.0 (omega (arith, n, c.and.ensures.1)) c.and.ensures.2,
     )
 
 pub returns : goal.returns
 returns c =
-    let s = trying_end c.loop-rest.invariant c.loop-rest-test.false in (
+    let s = trying_end c.loop-p.invariant c.in_default.ensures.steps.0 in (
       record { known = s.known; weights = s.weights },
       last_all (tabled_job c.args.tables.now) (may_in c.args.may.now) (members_in c.args.away) c.args.from c.set-people.ensures.each s,
     )
