@@ -1,6 +1,9 @@
 -- The refusals by their numbers, in the paper's words. 1 and 2 are the calling program's, 3 to 12 those of whoever wrote the sheet,
 -- 13 that of the job itself, 14 to 16 those of a signing. Assumes nothing.
-use Rattle.std.specs.Prelude.{ℕ}
+use Rattle.std.specs.Prelude.{cond, ℕ, eqb}
+use Rattle.card.specs.declared.refusal.Fault.{Fault}
+use Rattle.card.specs.declared.refusal.Refusal.{Refusal}
+use Rattle.card.specs.declared.refusal.Fault.TheVariants.{Short, Cap, Length, Header, Index, Reached, Kind, Field, Count, Tag, Class, Loose, Plan, Unknown, Signed, Ungranted}
 
 -- "1: answer buffer too short (8 × steps for a crew, 16 for spare). Card 0."
 abbrev pub short_fault : ℕ
@@ -66,3 +69,45 @@ signed_fault = 15
 -- "with 16 any other signing not granted"
 abbrev pub ungranted_fault : ℕ
 ungranted_fault = 16
+
+-- the number of a fault
+unfoldable pub fault_number : Fault → ℕ
+fault_number Short = short_fault
+fault_number Cap = cap_fault
+fault_number Length = length_fault
+fault_number Header = header_fault
+fault_number Index = index_fault
+fault_number Reached = reached_fault
+fault_number Kind = kind_fault
+fault_number Field = field_fault
+fault_number Count = count_fault
+fault_number Tag = tag_fault
+fault_number Class = class_fault
+fault_number Loose = loose_fault
+fault_number Plan = plan_fault
+fault_number Unknown = unknown_fault
+fault_number Signed = signed_fault
+fault_number Ungranted = ungranted_fault
+
+-- the fault of a number; any other number counts as the last one
+unfoldable pub fault_numbered : ℕ → Fault
+fault_numbered n =
+    cond (eqb n short_fault) Short
+    (cond (eqb n cap_fault) Cap
+    (cond (eqb n length_fault) Length
+    (cond (eqb n header_fault) Header
+    (cond (eqb n index_fault) Index
+    (cond (eqb n reached_fault) Reached
+    (cond (eqb n kind_fault) Kind
+    (cond (eqb n field_fault) Field
+    (cond (eqb n count_fault) Count
+    (cond (eqb n tag_fault) Tag
+    (cond (eqb n class_fault) Class
+    (cond (eqb n loose_fault) Loose
+    (cond (eqb n plan_fault) Plan
+    (cond (eqb n unknown_fault) Unknown
+    (cond (eqb n signed_fault) Signed Ungranted))))))))))))))
+
+-- the refusal of a number and a card
+abbrev pub refusal_numbered : ℕ → ℕ → Refusal
+refusal_numbered f c = record { fault = fault_numbered f; card = c }

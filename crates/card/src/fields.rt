@@ -1,22 +1,35 @@
 // What the fields of each kind of card may be. A test that fails anywhere on a card is one and the same refusal.
 ghost use Rattle.std.specs.Prelude.{◌≡◌, ◌+◌, ◌*◌, ◌<◌, ◌≤◌, length};
+ghost use Rattle.card.specs.Kinds.{kind_number};
 ghost use Rattle.card.specs.Fields.{form_ok, header_ok, class_levels, class_place, class_field_ok, person_ok, step_ok, rule_ok, limit_ok, scope_size, fields_ok};
 
 use crate::{byte, long, place, word};
 use bits::sizes::{MOST_CLASS_LEVELS, MOST_STEPS};
 
-pub const HEADER_KIND: usize = 1;
+// The kind of card 0, which no chain has.
+const HEADER_KIND: usize = 1;
 
-pub const PERSON_KIND: usize = 2;
+// The kinds of the cards of a chain, with the numbers that byte 0 of a card has for them.
+#[derive(Clone, Copy, Debug, PartialEq, Eq)]
+pub enum Kind {
+    Person = 2,
+    Step = 3,
+    Rule = 4,
+}
 
-pub const STEP_KIND: usize = 3;
-
-pub const RULE_KIND: usize = 4;
+impl Kind {
+    pub fn number(self) -> usize
+        ensures { result ≡ kind_number self }
+    {
+        self as usize
+    }
+}
 
 // The version of a sheet whose header gives the number of class levels.
 const SECOND_VERSION: usize = 2;
 
 // Whether a header's byte 12 is one that its version may have.
+#[tactic(auto, unfolding(crate::specs::Fields::form_ok))]
 fn form_ok(version: usize, levels: usize) -> bool
     ensures { result ≡ form_ok version levels }
 {
@@ -60,6 +73,7 @@ pub fn class_place(level: usize) -> usize
 }
 
 // Whether a class field is one that a person may have at a level, with so many class levels.
+#[tactic(auto, unfolding(crate::specs::Fields::class_field_ok))]
 fn class_field_ok(levels: usize, level: usize, class: usize) -> bool
     ensures { result ≡ class_field_ok levels level class }
 {
@@ -90,6 +104,8 @@ fn step_ok(s: &[u8], card: usize) -> bool
 }
 
 // Whether a limit is one that its kind of rule may have, with `size` steps in scope.
+// A rule's kind stays the sheet's byte: what is proved of jobs and rules takes in every byte, and an enum would be made and taken apart at each place.
+#[tactic(auto, unfolding(crate::specs::Fields::limit_ok))]
 fn limit_ok(kind: usize, limit: usize, size: usize) -> bool
     ensures { result ≡ limit_ok kind limit size }
 {
@@ -123,15 +139,14 @@ fn rule_ok(s: &[u8], steps: usize, card: usize) -> bool
 }
 
 // Whether the fields of a card are in order for the chain of `kind`; `steps` matters for rules alone.
-pub fn fields_ok(s: &[u8], steps: usize, kind: usize, card: usize) -> bool
+#[tactic(auto, unfolding(crate::specs::Fields::fields_ok, crate::specs::Kinds::kind_number))]
+pub fn fields_ok(s: &[u8], steps: usize, kind: Kind, card: usize) -> bool
     requires { (16 * card + 16 ≤ length s.now) × (steps < 16) }
-    ensures { result ≡ fields_ok s.now steps kind card }
+    ensures { result ≡ fields_ok s.now steps (kind_number kind) card }
 {
-    if kind == PERSON_KIND {
-        return person_ok(s, card);
+    match kind {
+        Kind::Person => person_ok(s, card),
+        Kind::Step => step_ok(s, card),
+        Kind::Rule => rule_ok(s, steps, card),
     }
-    if kind == STEP_KIND {
-        return step_ok(s, card);
-    }
-    rule_ok(s, steps, card)
 }

@@ -14,10 +14,14 @@ use borrow.Author.Tests.{eqb-true, eqb-false, eq-eqb, ne_eqb}
 use Rattle.bits.specs.Member.{member}
 use Rattle.bits.proofs.Member.{member-snoc}
 use Rattle.bits.proofs.Below.{by_cases}
-use Rattle.card.specs.Refusals.{index_fault}
 use Rattle.chain.specs.Walk.{listed, refused, Chain, walk, fault_at, first_fault}
-use Rattle.chain.specs.Answer.{Walks, marked}
-use Rattle.chain.specs.declared.Ended.TheVariants.{Listed, Refused}
+use Rattle.chain.specs.Answer.{Walks, fault_found, marked}
+use Rattle.std.specs.Prelude.{Option, Some, None, Ok, Err}
+use Rattle.card.specs.Refusals.{fault_number}
+use Rattle.card.specs.declared.refusal.Fault.{Fault}
+use Rattle.card.specs.declared.refusal.Fault.TheVariants.{Index}
+use Rattle.card.specs.declared.refusal.Refusal.{Refusal}
+use Rattle.card.proofs.Numbers.{number-some}
 use Rattle.chain.proofs.Step.{walk_end, walk_index, walk_fault, walk_next, fault_full}
 
 pub record Going (k : Chain) (most first : ℕ) (marks : List Bool) (list : List ℕ) (taken holder at : ℕ) : Type 0 where
@@ -62,7 +66,7 @@ module _ (k : Chain) (most first : ℕ) where
       }
 
   module _ {marks : List Bool} {list : List ℕ} {taken holder at : ℕ} (g : Going k most first marks list taken holder at) where
-    pub going_end : at ≡ 0 → Walks most (walk k most [] 0 first) (Listed taken) k.before marks list
+    pub going_end : at ≡ 0 → Walks most (walk k most [] 0 first) (Ok taken) k.before marks list
     going_end z =
         let e : walk k most [] 0 first ≡ listed (take taken list)
         = sym g.rest ∙ ap (λ (i : ℕ). walk k (most - taken) (take taken list) holder i) z ∙ walk_end k (take taken list) holder (most - taken) in
@@ -74,8 +78,9 @@ module _ (k : Chain) (most first : ℕ) where
           marks_length = g.marks_length;
         }
 
-    stopped : (f c : ℕ) → walk k (most - taken) (take taken list) holder at ≡ refused f c → Walks most (walk k most [] 0 first) (Refused f c) k.before marks list
-    stopped f c e =
+    stopped : {r : Refusal} → walk k (most - taken) (take taken list) holder at ≡ refused (fault_number r.fault) r.card
+        → Walks most (walk k most [] 0 first) (Err r) k.before marks list
+    stopped e =
         record {
           counted = omega arith;
           answer = sym e ∙ g.rest;
@@ -89,47 +94,51 @@ module _ (k : Chain) (most first : ℕ) where
     met_fault = ap (λ (b : Bool). first_fault b (eqb taken most) (not (k.mine at)) (not (k.fields at))) (g.marking at)
 
     module _ (n : at ≡ 0 → ⊥) where
-      pub going_index : k.cards ≤ at → Walks most (walk k most [] 0 first) (Refused index_fault holder) k.before marks list
-      going_index l = stopped index_fault holder (walk_index k (take taken list) holder at n (most - taken) l)
+      pub going_index : k.cards ≤ at → {r : Refusal} → r ≡ record { fault = Index; card = holder } → Walks most (walk k most [] 0 first) (Err r) k.before marks list
+      unfolding fault_number
+      going_index l e = stopped (walk_index k (take taken list) holder at n (most - taken) l ∙ ap (λ (x : Refusal). refused (fault_number x.fault) x.card) (sym e))
 
-      pub going_fault : at < k.cards → (f : ℕ) → (f ≡ 0 → ⊥) → f ≡ first_fault (marked marks at) (eqb taken most) (not (k.mine at)) (not (k.fields at))
-          → Walks most (walk k most [] 0 first) (Refused f at) k.before marks list
-      going_fault l f nf d =
-          let e : f ≡ fault_at k (eqb taken most) (take taken list) at = d ∙ met_fault in
-          stopped f at
-          (walk_fault k (take taken list) holder at n (most - taken) (eqb taken most) (full_room taken most g.room) l (λ z. nf (e ∙ z))
-          ∙ ap (λ (x : ℕ). refused x at) (sym e))
+      -- what was found of the card met
+      module _ {found : Option Fault} (d : fault_found found ≡ first_fault (marked marks at) (eqb taken most) (not (k.mine at)) (not (k.fields at))) where
+        pub going_fault : at < k.cards → {f : Fault} → found ≡ Some f → {r : Refusal} → r ≡ record { fault = f; card = at }
+            → Walks most (walk k most [] 0 first) (Err r) k.before marks list
+        going_fault l {f} is e =
+            let u : fault_number f ≡ fault_at k (eqb taken most) (take taken list) at = ap fault_found (sym is) ∙ d ∙ met_fault in
+            stopped
+            (walk_fault k (take taken list) holder at n (most - taken) (eqb taken most) (full_room taken most g.room) l (λ z. number-some f (u ∙ z))
+            ∙ ap (λ (x : ℕ). refused x at) (sym u)
+            ∙ ap (λ (x : Refusal). refused (fault_number x.fault) x.card) (sym e))
 
-      pub going_room : (f : ℕ) → f ≡ 0 → f ≡ first_fault (marked marks at) (eqb taken most) (not (k.mine at)) (not (k.fields at)) → taken < most
-      going_room f z d =
-          let u : eqb taken most ≡ false = fault_full (marked marks at) (eqb taken most) (not (k.mine at)) (not (k.fields at)) (sym d ∙ z) in
-          let d : taken ≡ most → ⊥ = eqb-false taken most u in
-          let r = g.room in omega arith
+        pub going_room : found ≡ None → taken < most
+        going_room z =
+            let u : eqb taken most ≡ false
+            = fault_full (marked marks at) (eqb taken most) (not (k.mine at)) (not (k.fields at)) (sym d ∙ ap fault_found z) in
+            let d : taken ≡ most → ⊥ = eqb-false taken most u in
+            let r = g.room in omega arith
 
-      pub going_next : at < k.cards → at < 141 → most ≤ 64 → (f : ℕ) → f ≡ 0 → f ≡ first_fault (marked marks at) (eqb taken most) (not (k.mine at)) (not (k.fields at))
-          → (next : ℕ) → next ≡ k.next at
-          → Going k most first (set marks at true) (set list taken at) (taken + 1) at next
-      going_next l b m x z d next en =
-          let u : taken < most = going_room x z d in
-          let e : fault_at k (eqb taken most) (take taken list) at ≡ 0 = sym met_fault ∙ sym d ∙ z in
-          let len = g.list_length in
-          let acc : take (taken + 1) (set list taken at) ≡ take taken list ++ at ∷ []
-          = rw add-one (take-suc-set list taken at (omega arith)) in
-          let f : fault_at k false (take taken list) at ≡ 0
-          = subst (λ (b : Bool). fault_at k b (take taken list) at ≡ 0) (ne_eqb taken most (omega arith)) e in
-          let r : most - taken ≡ suc (most - (taken + 1)) = omega arith in
-          record {
-            room = omega arith;
-            rest =
-                ap (λ (x : ℕ). walk k (most - (taken + 1)) (take (taken + 1) (set list taken at)) at x) en
-                ∙ ap (λ (x : List ℕ). walk k (most - (taken + 1)) x at (k.next at)) acc
-                ∙ sym (walk_next k (take taken list) holder at n (most - (taken + 1)) l f)
-                ∙ ap (λ (x : ℕ). walk k x (take taken list) holder at) (sym r)
-                ∙ g.rest;
-            marking = λ c.
-                mark_more k.before marks (take taken list) at g.marking (omega (arith, g.marks_length)) c
-                ∙ ap (λ (x : List ℕ). k.before c || member x c) (sym acc);
-            held = b;
-            list_length = length-set list taken at ∙ g.list_length;
-            marks_length = length-set marks at true ∙ g.marks_length;
-          }
+        pub going_next : at < k.cards → at < 141 → most ≤ 64 → found ≡ None → (next : ℕ) → next ≡ k.next at
+            → Going k most first (set marks at true) (set list taken at) (taken + 1) at next
+        going_next l b m z next en =
+            let u : taken < most = going_room z in
+            let e : fault_at k (eqb taken most) (take taken list) at ≡ 0 = sym met_fault ∙ sym d ∙ ap fault_found z in
+            let len = g.list_length in
+            let acc : take (taken + 1) (set list taken at) ≡ take taken list ++ at ∷ []
+            = rw add-one (take-suc-set list taken at (omega arith)) in
+            let f : fault_at k false (take taken list) at ≡ 0
+            = subst (λ (b : Bool). fault_at k b (take taken list) at ≡ 0) (ne_eqb taken most (omega arith)) e in
+            let r : most - taken ≡ suc (most - (taken + 1)) = omega arith in
+            record {
+              room = omega arith;
+              rest =
+                  ap (λ (x : ℕ). walk k (most - (taken + 1)) (take (taken + 1) (set list taken at)) at x) en
+                  ∙ ap (λ (x : List ℕ). walk k (most - (taken + 1)) x at (k.next at)) acc
+                  ∙ sym (walk_next k (take taken list) holder at n (most - (taken + 1)) l f)
+                  ∙ ap (λ (x : ℕ). walk k x (take taken list) holder at) (sym r)
+                  ∙ g.rest;
+              marking = λ c.
+                  mark_more k.before marks (take taken list) at g.marking (omega (arith, g.marks_length)) c
+                  ∙ ap (λ (x : List ℕ). k.before c || member x c) (sym acc);
+              held = b;
+              list_length = length-set list taken at ∙ g.list_length;
+              marks_length = length-set marks at true ∙ g.marks_length;
+            }
