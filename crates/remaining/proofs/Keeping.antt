@@ -6,10 +6,10 @@ use Prim.Native.Nat.{ℕ, ◌+◌, ◌<◌}
 use native.Mathlib.Omega.{arith}
 use native.Mathlib.Nat.{not-suc-le-zero}
 use native.Mathlib.Numerals.{add-one}
-use lib.ListN.{length, get_or, set, replicate, length-set}
-use lib.Seq.{length-take-le, take-suc-set, get_or-set_same, get_or-set_other}
+use lib.ListN.{length, get_or, take, set, replicate, length-set}
+use lib.Seq.{length-take-le, get_or-take, take-suc-set, get_or-set_same, get_or-set_other}
 use Rattle.bits.proofs.Below.{below_suc, true-false}
-use Rattle.remaining.specs.Arrays.{Keeps}
+use Rattle.remaining.specs.Arrays.{Keeps, OfSteps}
 use Rattle.remaining.specs.Kept.{kept_below}
 use Rattle.remaining.proofs.KeptLaws.{kept_step, kept_few}
 
@@ -17,6 +17,17 @@ use Rattle.remaining.proofs.KeptLaws.{kept_step, kept_few}
 pub keeps_count : {kept step : List ℕ} {count : ℕ} → Keeps kept step count → length kept ≡ count
 keeps_count {step = step} {count = count} h =
     ap length (sym h.are) ∙ length-take-le count step (omega (arith, h.sized, h.few))
+
+-- the steps that are kept, as the array's first entries
+pub keeps_steps : {kept step : List ℕ} {count : ℕ} → Keeps kept step count → OfSteps (take count step)
+keeps_steps {kept} {step} {count} h =
+    let n : length (take count step) ≡ count = length-take-le count step (omega (arith, h.sized, h.few)) in
+    record {
+      few = omega (arith, h.few);
+      below = λ k l.
+          let b = h.below k (omega arith) in
+          let e = get_or-take count step k 0 (omega arith) in omega arith;
+    }
 
 -- by equal arrays and counts
 pub keeps_as : {kept step step' : List ℕ} {count count' : ℕ} → Keeps kept step count → step' ≡ step → count' ≡ count → Keeps kept step' count'

@@ -19,8 +19,11 @@ use Rattle.sheet.proofs.Readable.{readable_job, read_sheet_job, sheet_levels}
 use Rattle.sheet.specs.Answer.{answer, job_of, sheet_of, table}
 use Rattle.sheet.specs.Read.{Read, job, fault, read_sheet}
 use Rattle.sheet.specs.Readable.{ReadableJob, ReadSheet}
-use Rattle.sheet.specs.declared.Reading.{Reading}
-use Rattle.sheet.specs.declared.Reading.TheVariants.{Readable, Refused}
+use Rattle.std.specs.Prelude.{Result, Ok, Err}
+use Rattle.card.specs.Refusals.{fault_number}
+use Rattle.card.specs.declared.refusal.Refusal.{Refusal}
+use Rattle.sheet.proofs.Found.{ok_same, err_ok}
+use Rattle.sheet.proofs.Refusals.{refusal_read}
 use Rattle.sheet.specs.declared.SheetJob.{SheetJob}
 use Rattle.remaining.specs.Kept.{gather}
 use Rattle.remaining.specs.Read.{ReadJob}
@@ -201,48 +204,36 @@ whole_left s people steps rules read none = whole_job s people steps rules read 
 
 -- ---- the reading
 
--- an answer with counts, and the answer of the reader that it was
-left_counts : (r : Reading) (j : SheetJob) (people steps rules : ℕ) → (left_of r j).reading ≡ Readable people steps rules
-    → (all : ℕ) × (r ≡ Readable people all rules) × (length (kept_in_lem all j) ≡ steps) × ((left_of r j).job ≡ job_over (kept_in_lem all j) j)
-unfolding left_of
-left_counts (Readable p t u) j people steps rules e =
-    let x : p ≡ people = cc in let y : u ≡ rules = cc in (t, ap₂ (λ (p : ℕ) (u : ℕ). Readable p t u) x y, cc, refl)
-left_counts (Refused f c) j people steps rules e = let z : ◌≡◌ {A = ℕ} 0 1 = cc in absurd (omega arith)
-
-pub read_job_left : (s : List ℕ) (people steps rules : ℕ) → (remaining_of s).reading ≡ Readable people steps rules → ReadJob s people steps rules (remaining_of s).job
-read_job_left s people steps rules e =
-    let j = (sheet_of s).job in
-    let a = left_counts (sheet_of s).reading j people steps rules e in
-    let w = read_sheet_job s people a.0 rules a.1 in
-    let cards = w.step_cards in
-    let kept : kept_in_lem a.0 j ≡ kept_of s cards = kept_read w in
-    record {
-      person_cards = w.person_cards;
-      step_cards = cards;
-      rule_cards = w.rule_cards;
-      read = w.read;
-      chains = w.chains;
-      people_count = w.people_count;
-      steps_count = steps_left-length s cards ∙ ap length (sym kept) ∙ a.2;
-      rules_count = w.rules_count;
-      filled = a.3 ∙ ap (λ (k : List ℕ). job_over k j) kept ∙ ap (job_over (kept_of s cards)) w.filled;
-      readable =
-          subst (ReadableJob people steps rules) (sym a.3)
-          (subst (λ (n : ℕ). ReadableJob people n rules (job_over (kept_in_lem a.0 j) j)) a.2 (readable_left w.readable));
-    }
-
-pub read_job_refusal : (s : List ℕ) (f c : ℕ) → (remaining_of s).reading ≡ Refused f c → (sheet_of s).reading ≡ Refused f c
-unfolding left_of
-read_job_refusal s f c e = go (sheet_of s).reading (sheet_of s).job e
+pub read_job_left : (s : List ℕ) (j : SheetJob) → remaining_of s ≡ Ok j → ReadJob s j.people j.steps j.rules j
+unfolding left_of job_over
+read_job_left s j e = go (sheet_of s) refl e
   where
-    go : (r : Reading) (j : SheetJob) → (left_of r j).reading ≡ Refused f c → r ≡ Refused f c
-    go (Readable p t u) j e = let z : ◌≡◌ {A = ℕ} 0 1 = cc in absurd (omega arith)
-    go (Refused g d) j e = e
+    go : (a : Result SheetJob Refusal) → sheet_of s ≡ a → left_of a ≡ Ok j → ReadJob s j.people j.steps j.rules j
+    go (Ok i) d e =
+        let w = read_sheet_job s i d in
+        let kept : kept_in_lem i.steps i ≡ kept_of s w.step_cards = kept_read w in
+        subst (λ (x : SheetJob). ReadJob s x.people x.steps x.rules x) (ok_same e)
+        (record {
+          person_cards = w.person_cards;
+          step_cards = w.step_cards;
+          rule_cards = w.rule_cards;
+          read = w.read;
+          chains = w.chains;
+          people_count = w.people_count;
+          steps_count = steps_left-length s w.step_cards ∙ ap length (sym kept);
+          rules_count = w.rules_count;
+          filled = ap (λ (k : List ℕ). job_over k i) kept ∙ ap (job_over (kept_of s w.step_cards)) w.filled;
+          readable = readable_left w.readable;
+        })
+    go (Err r) d e = absurd (err_ok e)
 
-pub read_job_fault : (s : List ℕ) (f c : ℕ) → (remaining_of s).reading ≡ Refused f c → read_sheet s ≡ fault f c
-unfolding answer
-read_job_fault s f c e = go (read_sheet s) (read_job_refusal s f c e)
+pub read_job_refusal : (s : List ℕ) (r : Refusal) → remaining_of s ≡ Err r → sheet_of s ≡ Err r
+unfolding left_of
+read_job_refusal s r e = go (sheet_of s) e
   where
-    go : (r : Read) → (answer s r).reading ≡ Refused f c → r ≡ fault f c
-    go (job p t u) e = let z : ◌≡◌ {A = ℕ} 0 1 = cc in absurd (omega arith)
-    go (fault g d) e = let x : g ≡ f = cc in let y : d ≡ c = cc in ap₂ fault x y
+    go : (a : Result SheetJob Refusal) → left_of a ≡ Err r → a ≡ Err r
+    go (Ok i) e = absurd (err_ok (sym e))
+    go (Err q) e = e
+
+pub read_job_fault : (s : List ℕ) (r : Refusal) → remaining_of s ≡ Err r → read_sheet s ≡ fault (fault_number r.fault) r.card
+read_job_fault s r e = refusal_read s r (read_job_refusal s r e)

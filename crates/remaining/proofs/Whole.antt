@@ -62,6 +62,9 @@ module _ (s people steps rules : List ℕ) (read : read_sheet s ≡ job people s
       let j = job_of s people steps rules in
       λ i.
       record {
+        people = j.people;
+        steps = all i;
+        rules = j.rules;
         levels = j.levels;
         person_tag = j.person_tag;
         step_tag = tags_stay i;

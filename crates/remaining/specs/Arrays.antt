@@ -8,3 +8,8 @@ pub record Keeps (kept step : List ℕ) (count : ℕ) : Type 0 where
   pub are : take count step ≡ kept
   -- each a step of a sheet
   pub below : (k : ℕ) → k < count → get_or step k 0 < 12
+
+-- a list of steps of a sheet
+pub record OfSteps (kept : List ℕ) : Type 0 where
+  pub few : length kept ≤ 12
+  pub below : (k : ℕ) → k < length kept → get_or kept k 0 < 12

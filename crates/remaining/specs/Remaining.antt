@@ -1,10 +1,8 @@
 -- The job of a readable sheet without its skipped steps: what reading hands on to both engines. Assumes nothing.
-use Rattle.std.specs.Prelude.{Bool, List, map, ℕ, eqb, length, get_or}
+use Rattle.std.specs.Prelude.{Result, Ok, Err, Bool, List, map, ℕ, eqb, length, get_or}
 use Rattle.card.specs.Fields.{skipped_of}
+use Rattle.card.specs.declared.refusal.Refusal.{Refusal}
 use Rattle.sheet.specs.Answer.{job_of, sheet_of, table, zeros}
-use Rattle.sheet.specs.declared.Reading.{Reading}
-use Rattle.sheet.specs.declared.Reading.TheVariants.{Readable, Refused}
-use Rattle.sheet.specs.declared.Sheet.{Sheet}
 use Rattle.sheet.specs.declared.SheetJob.{SheetJob}
 use Rattle.remaining.specs.Kept.{kept_below, gather}
 
@@ -12,6 +10,9 @@ use Rattle.remaining.specs.Kept.{kept_below, gather}
 unfoldable pub job_over : List ℕ → SheetJob → SheetJob
 job_over kept j =
     record {
+      people = j.people;
+      steps = length kept;
+      rules = j.rules;
       levels = j.levels;
       person_tag = j.person_tag;
       step_tag = table 12 (λ t. get_or j.step_tag t 0) kept;
@@ -29,13 +30,13 @@ abbrev pub kept_in_lem : ℕ → SheetJob → List ℕ
 kept_in_lem steps j = kept_below (λ t. eqb (get_or j.skipped t 0) 1) steps
 
 -- the reader's answer without the skipped steps
-unfoldable pub left_of : Reading → SheetJob → Sheet
-left_of (Readable people steps rules) j = record { reading = Readable people (length (kept_in_lem steps j)) rules; job = job_over (kept_in_lem steps j) j }
-left_of (Refused f c) j = record { reading = Refused f c; job = j }
+unfoldable pub left_of : Result SheetJob Refusal → Result SheetJob Refusal
+left_of (Ok j) = Ok (job_over (kept_in_lem j.steps j) j)
+left_of (Err r) = Err r
 
 -- for a byte list
-abbrev pub remaining_of : List ℕ → Sheet
-remaining_of s = left_of (sheet_of s).reading (sheet_of s).job
+abbrev pub remaining_of : List ℕ → Result SheetJob Refusal
+remaining_of s = left_of (sheet_of s)
 
 -- ---- the same by the cards along the chains of a sheet
 

@@ -1,16 +1,17 @@
 // Reading a sheet for its plans: the job that it describes without the steps that are skipped. Neither engine ever sees a skipped step.
 #![tactic(auto)]
 
-ghost use Rattle.std.specs.Prelude.{map, ◌≡◌, ◌≤◌, eqb, length, get_or, take};
+ghost use Rattle.std.specs.Prelude.{map, ◌≡◌, ◌≤◌, eqb, length, get_or};
 ghost use Rattle.sheet.specs.Answer.{table};
-ghost use Rattle.remaining.specs.Arrays.{Keeps};
+ghost use Rattle.remaining.specs.Arrays.{Keeps, OfSteps};
 ghost use Rattle.remaining.specs.Kept.{kept_below, gather};
 ghost use Rattle.remaining.specs.Remaining.{job_over, remaining_of};
 
 use bits::sizes::{MOST_CHAIN, MOST_STEPS};
-use sheet::{Reading, Sheet, SheetJob, read_sheet};
+use card::refusal::Refusal;
+use sheet::{SheetJob, read_sheet};
 
-// The steps that remain, along the whole chain.
+// The steps that remain, along the whole chain. An array with its count beside it, since nothing is allocated; it is handed on as a slice.
 #[derive(Drop)]
 struct Kept {
     step: [u8; MOST_STEPS],
@@ -37,58 +38,61 @@ fn kept_steps(skipped: &[u8; MOST_CHAIN], steps: usize) -> Kept
 }
 
 // The tags of the steps that remain.
-fn tags_left(tags: &[u32; MOST_STEPS], step: &[u8; MOST_STEPS], count: usize) -> [u32; MOST_STEPS]
-    requires { (length tags.now ≡ 12) × Keeps (take count step.now) step.now count }
-    ensures { result ≡ table 12 (λ t. get_or tags.now t 0) (take count step.now) }
+fn tags_left(tags: &[u32; MOST_STEPS], kept: &[u8]) -> [u32; MOST_STEPS]
+    requires { (length tags.now ≡ 12) × OfSteps kept.now }
+    ensures { result ≡ table 12 (λ t. get_or tags.now t 0) kept.now }
 {
     let mut left = [0u32; MOST_STEPS];
-    for k in 0..count {
-        let s = step[k] as usize;
-        left[k] = tags[s];
+    for (k, &s) in kept.iter().enumerate() {
+        left[k] = tags[s as usize];
     }
     left
 }
 
 // The bits of a set of steps at those that remain, one after the other.
-fn gathered(set: u16, step: &[u8; MOST_STEPS], count: usize) -> u16
-    requires { Keeps (take count step.now) step.now count }
-    ensures { result ≡ gather (take count step.now) set }
+fn gathered(set: u16, kept: &[u8]) -> u16
+    requires { OfSteps kept.now }
+    ensures { result ≡ gather kept.now set }
 {
     if set == 0 {
         return 0;
     }
+    let count = kept.len();
     let mut left: u16 = 0;
     for k in 0..count {
-        left = left * 2 + (set >> step[count - 1 - k] as usize) % 2;
+        left = left * 2 + (set >> kept[count - 1 - k] as usize) % 2;
     }
     left
 }
 
 // Those of each of several sets.
-fn sets_left(sets: &[u16; MOST_CHAIN], step: &[u8; MOST_STEPS], count: usize) -> [u16; MOST_CHAIN]
-    requires { (length sets.now ≡ 64) × Keeps (take count step.now) step.now count }
-    ensures { result ≡ map (gather (take count step.now)) sets.now }
+fn sets_left(sets: &[u16; MOST_CHAIN], kept: &[u8]) -> [u16; MOST_CHAIN]
+    requires { (length sets.now ≡ 64) × OfSteps kept.now }
+    ensures { result ≡ map (gather kept.now) sets.now }
 {
     let mut left = [0u16; MOST_CHAIN];
-    for i in 0..MOST_CHAIN {
-        left[i] = gathered(sets[i], step, count);
+    for (i, &set) in sets.iter().enumerate() {
+        left[i] = gathered(set, kept);
     }
     left
 }
 
 // The job over the steps that remain.
-fn job_over(job: SheetJob, step: &[u8; MOST_STEPS], count: usize) -> SheetJob
-    requires { (length job.step_tag ≡ 12) × (length job.permitted ≡ 64) × (length job.rule_scope ≡ 64) × Keeps (take count step.now) step.now count }
-    ensures { result ≡ job_over (take count step.now) job }
+fn job_over(job: SheetJob, kept: &[u8]) -> SheetJob
+    requires { (length job.step_tag ≡ 12) × (length job.permitted ≡ 64) × (length job.rule_scope ≡ 64) × OfSteps kept.now }
+    ensures { result ≡ job_over kept.now job }
 {
     SheetJob {
+        people: job.people,
+        steps: kept.len(),
+        rules: job.rules,
         levels: job.levels,
         person_tag: job.person_tag,
-        step_tag: tags_left(&job.step_tag, step, count),
+        step_tag: tags_left(&job.step_tag, kept),
         skipped: [0; MOST_CHAIN],
         class: job.class,
-        permitted: sets_left(&job.permitted, step, count),
-        rule_scope: sets_left(&job.rule_scope, step, count),
+        permitted: sets_left(&job.permitted, kept),
+        rule_scope: sets_left(&job.rule_scope, kept),
         rule_kind: job.rule_kind,
         rule_level: job.rule_level,
         rule_limit: job.rule_limit,
@@ -96,32 +100,15 @@ fn job_over(job: SheetJob, step: &[u8; MOST_STEPS], count: usize) -> SheetJob
 }
 
 // Reads a sheet: any bytes at all. The steps counted and the arrays are those of the steps that remain.
-pub fn read_job(sheet: &[u8]) -> Sheet
+pub fn read_job(sheet: &[u8]) -> Result<SheetJob, Refusal>
     ensures { result ≡ remaining_of sheet.now }
 {
-    let read = read_sheet(sheet);
-    let reading = read.reading;
-    let Reading::Readable {
-        people,
-        steps,
-        rules,
-    } = reading
-    else {
-        return read;
-    };
-    let kept = kept_steps(&read.job.skipped, steps);
+    let job = read_sheet(sheet)?;
+    let kept = kept_steps(&job.skipped, job.steps);
     let count = kept.count;
     // Mostly no step is skipped.
-    if count == steps {
-        return read;
+    if count == job.steps {
+        return Ok(job);
     }
-    let step = kept.step;
-    Sheet {
-        reading: Reading::Readable {
-            people,
-            steps: count,
-            rules,
-        },
-        job: job_over(read.job, &step, count),
-    }
+    Ok(job_over(job, &kept.step[..count]))
 }

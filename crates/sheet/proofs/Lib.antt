@@ -3,8 +3,8 @@ pub mod Columns
 pub mod Tests
 pub mod Clashes
 pub mod Either
+pub mod Found
 pub mod Checked
-pub mod Four
 pub mod Arrays
 pub mod Stage
 pub mod Order

@@ -22,7 +22,8 @@ use Rattle.card.proofs.Limits.{limit_cases}
 use Rattle.sheet.specs.Read.{Read, job, fault, first_clash, first_late, same_tag, same_class_lem, class_moved, read_sheet}
 use Rattle.sheet.specs.Answer.{answer, job_of, table, class_table, sheet_of}
 use Rattle.sheet.specs.Readable.{ReadableJob, ReadSheet}
-use Rattle.sheet.specs.declared.Reading.TheVariants.{Readable}
+use Rattle.std.specs.Prelude.{Ok}
+use Rattle.sheet.proofs.Found.{ok_same, err_ok}
 use Rattle.sheet.specs.declared.SheetJob.{SheetJob}
 use Rattle.sheet.proofs.Chains.{chains}
 use Rattle.sheet.proofs.Columns.{length_classes, classes_level}
@@ -173,31 +174,27 @@ fewer_rules r l =
       nested = r.nested;
     }
 
--- an answer with counts is the answer of a job
-answer_counts : (s : List ℕ) (r : Read) (people steps rules : ℕ) → (answer s r).reading ≡ Readable people steps rules
-    → (p : List ℕ) × (t : List ℕ) × (u : List ℕ) × (r ≡ job p t u) × (length p ≡ people) × (length t ≡ steps) × (length u ≡ rules) × ((answer s r).job ≡ job_of s p t u)
+-- the answer of a job
+answer_job : (s : List ℕ) (r : Read) (j : SheetJob) → answer s r ≡ Ok j → (p : List ℕ) × (t : List ℕ) × (u : List ℕ) × (r ≡ job p t u) × (j ≡ job_of s p t u)
 unfolding answer
-answer_counts s (job p t u) people steps rules e = (p, t, u, refl, cc, cc, cc, refl)
-answer_counts s (fault f c) people steps rules e = let z : ◌≡◌ {A = ℕ} 0 1 = cc in absurd (omega arith)
+answer_job s (job p t u) j e = (p, t, u, refl, ok_same (sym e))
+answer_job s (fault f c) j e = absurd (err_ok e)
 
-pub read_sheet_job : (s : List ℕ) (people steps rules : ℕ) → (sheet_of s).reading ≡ Readable people steps rules → ReadSheet s people steps rules (sheet_of s).job
-read_sheet_job s people steps rules e =
-    let a = answer_counts s (read_sheet s) people steps rules e in
+pub read_sheet_job : (s : List ℕ) (j : SheetJob) → sheet_of s ≡ Ok j → ReadSheet s j.people j.steps j.rules j
+unfolding job_of
+read_sheet_job s j e =
+    let a = answer_job s (read_sheet s) j e in
     let p = (sheet_passes s a.0 a.1 a.2 a.3).rest in
-    let r = readable_job s a.0 a.1 a.2 (length s / 16) p (sheet_levels s a.0 a.1 a.2 a.3) in
-    record {
+    subst (λ (x : SheetJob). ReadSheet s x.people x.steps x.rules x) (sym a.4)
+    (record {
       person_cards = a.0;
       step_cards = a.1;
       rule_cards = a.2;
       read = a.3;
       chains = chains s (length s / 16) a.0 a.1 a.2 p;
-      people_count = a.4;
-      steps_count = a.5;
-      rules_count = a.6;
-      filled = a.7;
-      readable =
-          subst (λ (x : ℕ). ReadableJob x steps rules (sheet_of s).job) a.4
-          (subst (λ (x : ℕ). ReadableJob (length a.0) x rules (sheet_of s).job) a.5
-          (subst (λ (x : ℕ). ReadableJob (length a.0) (length a.1) x (sheet_of s).job) a.6
-          (subst (ReadableJob (length a.0) (length a.1) (length a.2)) (sym a.7) r)));
-    }
+      people_count = refl;
+      steps_count = refl;
+      rules_count = refl;
+      filled = refl;
+      readable = readable_job s a.0 a.1 a.2 (length s / 16) p (sheet_levels s a.0 a.1 a.2 a.3);
+    })

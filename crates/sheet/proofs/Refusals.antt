@@ -31,7 +31,11 @@ use Rattle.sheet.specs.Faults as faults
 use Rattle.sheet.specs.Faults.{ChainName, peopleChain, stepsChain, rulesChain, rank, first_index, kind_along, most_along, index_at, cards_in}
 use Rattle.sheet.specs.Faults.{ComesTo, InOrder, IndexBefore, Reached, FirstClashing, SameTags, SameClassOtherAbove, OnNoChain, Fault}
 use Rattle.sheet.specs.Readable.{ReadRefusal}
-use Rattle.sheet.specs.declared.Reading.TheVariants.{Refused}
+use Rattle.std.specs.Prelude.{Err}
+use Rattle.card.specs.Refusals.{fault_number, fault_numbered}
+use Rattle.card.specs.declared.refusal.Refusal.{Refusal}
+use Rattle.card.proofs.Numbers.{number-numbered}
+use Rattle.sheet.proofs.Found.{err_same, err_ok}
 use Rattle.sheet.proofs.InOrder.{only_below, length_wrong, header-true, person-true, step-true, rule-true}
 use Rattle.sheet.proofs.Indices.{index_card, upto_leads, upto_comes, upto_holder, index_next, next_comes}
 use Rattle.sheet.proofs.Indices.{Traced, traced, comes_card, comes_member, member_comes}
@@ -400,10 +404,17 @@ sheet_refusal s f c e =
           (λ t. omega (arith, (wrong_length_first s f c t e).1));
     }
 
-pub read_sheet_refusal : (s : List ℕ) (f c : ℕ) → (sheet_of s).reading ≡ Refused f c → ReadRefusal f c
+-- a sheet that is refused was read to the number of that refusal
+pub refusal_read : (s : List ℕ) (r : Refusal) → sheet_of s ≡ Err r → read_sheet s ≡ fault (fault_number r.fault) r.card
 unfolding answer
-read_sheet_refusal s f c e = go (read_sheet s) refl e
+refusal_read s r e = go (read_sheet s) refl e
   where
-    go : (r : Read) → read_sheet s ≡ r → (answer s r).reading ≡ Refused f c → ReadRefusal f c
-    go (job p t u) d e = let z : ◌≡◌ {A = ℕ} 0 1 = cc in absurd (omega arith)
-    go (fault g h) d e = let x : g ≡ f = cc in let y : h ≡ c = cc in subst (λ (v : ℕ). ReadRefusal v c) x (subst (λ (v : ℕ). ReadRefusal g v) y (sheet_refusal s g h d))
+    go : (x : Read) → read_sheet s ≡ x → answer s x ≡ Err r → x ≡ fault (fault_number r.fault) r.card
+    go (job p t u) d e = absurd (err_ok (sym e))
+    go (fault g h) d e =
+        let w = sheet_refusal s g h d in
+        let n : fault_number (fault_numbered g) ≡ g = number-numbered g (omega (arith, w.from)) (omega (arith, w.to)) in
+        ap (λ (x : ℕ). fault x h) (sym n) ∙ ap (λ (x : Refusal). fault (fault_number x.fault) x.card) (err_same e)
+
+pub read_sheet_refusal : (s : List ℕ) (r : Refusal) → sheet_of s ≡ Err r → ReadRefusal (fault_number r.fault) r.card
+read_sheet_refusal s r e = sheet_refusal s (fault_number r.fault) r.card (refusal_read s r e)

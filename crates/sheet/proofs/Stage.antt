@@ -5,19 +5,20 @@ use mathlib.Core.Path.{◌≡◌, refl, sym, ◌∙◌, ap, fun_ext}
 use Prim.Native.Nat.{ℕ, zero, suc, ◌*◌, ◌<◌, ◌≤◌}
 use native.Mathlib.Omega.{arith}
 use lib.ListN.{length, get_or, take, replicate}
-use lib.Seq.{length-take-le, get_or-take}
+use lib.Seq.{length-take-le}
 use Rattle.bits.specs.Member.{member}
 use Rattle.bits.specs.Sizes.{most_class_levels}
 use Rattle.card.specs.Fields.{class_levels}
 use Rattle.chain.specs.Walk.{listed, refused, walk}
 use Rattle.chain.specs.Answer.{Walks, as_walked, chain_of, marked, listed_count}
-use Rattle.chain.specs.declared.Ended.{Ended}
-use Rattle.chain.specs.declared.Ended.TheVariants.{Listed, Refused}
+use Rattle.std.specs.Prelude.{Result, Ok, Err}
+use Rattle.card.specs.Refusals.{fault_number}
+use Rattle.card.specs.declared.refusal.Refusal.{Refusal}
 use Rattle.chain.proofs.Chained.{walk_chained}
 use Rattle.sheet.specs.Cards.{Listing, Marking}
 
 module _ {s : List ℕ} {cards : ℕ} (kind steps : ℕ) {most first : ℕ} {marks₀ : List Bool} {reached : ℕ → Bool} (m : Marking s cards marks₀ reached) (fits : most ≤ 64)
-    {start : ℕ} (starts : first ≡ start) {ended : Ended} {marks : List Bool} {list : List ℕ}
+    {start : ℕ} (starts : first ≡ start) {ended : Result ℕ Refusal} {marks : List Bool} {list : List ℕ}
     (w : Walks most (walk (chain_of s cards kind steps (marked marks₀)) most [] 0 first) ended (marked marks₀) marks list) where
   -- the walk over the marks is the walk over the cards reached
   walk_reached : walk (chain_of s cards kind steps (marked marks₀)) most [] 0 first ≡ walk (chain_of s cards kind steps reached) most [] 0 start
@@ -25,29 +26,29 @@ module _ {s : List ℕ} {cards : ℕ} (kind steps : ℕ) {most first : ℕ} {mar
       ap (λ (b : ℕ → Bool). walk (chain_of s cards kind steps b) most [] 0 first) (fun_ext m.so_far)
       ∙ ap (λ (i : ℕ). walk (chain_of s cards kind steps reached) most [] 0 i) starts
 
-  pub stage_refused : {f c : ℕ} → ended ≡ Refused f c → walk (chain_of s cards kind steps reached) most [] 0 start ≡ refused f c
-  stage_refused e = sym walk_reached ∙ sym w.answer ∙ ap (λ (x : Ended). as_walked x list) e
+  pub stage_refused : {r : Refusal} → ended ≡ Err r → walk (chain_of s cards kind steps reached) most [] 0 start ≡ refused (fault_number r.fault) r.card
+  stage_refused e = sym walk_reached ∙ sym w.answer ∙ ap (λ (x : Result ℕ Refusal). as_walked x list) e
 
-  module _ {n : ℕ} (e : ended ≡ Listed n) where
+  module _ {n : ℕ} (e : ended ≡ Ok n) where
     pub stage_listed : walk (chain_of s cards kind steps reached) most [] 0 start ≡ listed (take n list)
-    stage_listed = sym walk_reached ∙ sym w.answer ∙ ap (λ (x : Ended). as_walked x list) e
+    stage_listed = sym walk_reached ∙ sym w.answer ∙ ap (λ (x : Result ℕ Refusal). as_walked x list) e
 
     pub stage_count : n ≤ most
     stage_count =
         let c : listed_count ended ≤ most = w.counted in
         let d : listed_count ended ≡ n = ap listed_count e in omega arith
 
-    pub stage_listing : Listing s list n
+    -- so many cards are listed
+    pub stage_length : length (take n list) ≡ n
+    stage_length = let c = stage_count in let z = w.list_length in length-take-le n list (omega arith)
+
+    pub stage_listing : Listing s (take n list)
     stage_listing =
-        let c = stage_count in let z = w.list_length in
+        let c = stage_count in let d = stage_length in
         record {
-          size = z;
           fits = omega arith;
           inside = λ k h.
-              let l : length (take n list) ≡ n = length-take-le n list (omega arith) in
-              let i : get_or (take n list) k 0 < cards
-              = (walk_chained (chain_of s cards kind steps reached) start most (take n list) stage_listed).inside k (omega arith) in
-              let g : get_or (take n list) k 0 ≡ get_or list k 0 = get_or-take n list k 0 h in
+              let i = (walk_chained (chain_of s cards kind steps reached) start most (take n list) stage_listed).inside k h in
               let b = m.whole in omega arith;
         }
 

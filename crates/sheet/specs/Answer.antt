@@ -1,11 +1,11 @@
--- The reader's answer: the counts or the refusal, and the job's arrays beside it. Assumes nothing.
-use Rattle.std.specs.Prelude.{List, [], map, ◌++◌, ℕ, zero, suc, ◌*◌, ◌-◌, length, replicate}
+-- The reader's answer: the job or the refusal. Assumes nothing.
+use Rattle.std.specs.Prelude.{Option, Some, None, Result, Ok, Err, List, [], map, ◌++◌, ℕ, zero, suc, ◌*◌, ◌-◌, length, replicate}
 use Rattle.bits.specs.Sizes.{class_words}
 use Rattle.card.specs.Fields.{class_levels, tag_of, levels_in, class_of, permitted_of, skipped_of, rule_kind_of, level_of, limit_of, scope_of}
+use Rattle.card.specs.Refusals.{fault_number, refusal_numbered}
+use Rattle.card.specs.declared.refusal.Refusal.{Refusal}
 use Rattle.sheet.specs.Read.{Read, job, fault, read_sheet}
 use Rattle.sheet.specs.declared.SheetJob.{SheetJob}
-use Rattle.sheet.specs.declared.Sheet.{Sheet}
-use Rattle.sheet.specs.declared.Reading.TheVariants.{Readable, Refused}
 
 -- a field of each card, along the chain, and zeros up to the array's size
 unfoldable pub table : ℕ → (ℕ → ℕ) → List ℕ → List ℕ
@@ -23,10 +23,13 @@ class_columns s people (suc q) = class_columns s people q ++ table 64 (class_of 
 abbrev pub class_table : List ℕ → List ℕ → List ℕ
 class_table s people = class_columns s people (class_levels s) ++ zeros (class_words - class_levels s * 64)
 
--- the levels and the arrays of the job that the chains' cards describe
+-- the counts, the levels and the arrays of the job that the chains' cards describe
 unfoldable pub job_of : List ℕ → List ℕ → List ℕ → List ℕ → SheetJob
 job_of s people steps rules =
     record {
+      people = length people;
+      steps = length steps;
+      rules = length rules;
       levels = levels_in s;
       person_tag = table 64 (tag_of s) people;
       step_tag = table 12 (tag_of s) steps;
@@ -39,27 +42,16 @@ job_of s people steps rules =
       rule_limit = table 64 (limit_of s) rules;
     }
 
--- those beside a refusal
-abbrev pub no_job : SheetJob
-no_job =
-    record {
-      levels = 0;
-      person_tag = zeros 64;
-      step_tag = zeros 12;
-      skipped = zeros 64;
-      class = zeros class_words;
-      permitted = zeros 64;
-      rule_scope = zeros 64;
-      rule_kind = zeros 64;
-      rule_level = zeros 64;
-      rule_limit = zeros 64;
-    }
+-- the reader's answer: a job, or the refusal with its card
+unfoldable pub answer : List ℕ → Read → Result SheetJob Refusal
+answer s (job people steps rules) = Ok (job_of s people steps rules)
+answer s (fault f c) = Err (refusal_numbered f c)
 
-unfoldable pub answer : List ℕ → Read → Sheet
-answer s (job people steps rules) =
-    record { reading = Readable (length people) (length steps) (length rules); job = job_of s people steps rules }
-answer s (fault f c) = record { reading = Refused f c; job = no_job }
+-- what is read where a test may have given a refusal
+abbrev pub otherwise : Option Refusal → Read → Read
+otherwise None next = next
+otherwise (Some r) next = fault (fault_number r.fault) r.card
 
 -- what the reader gives for a byte list
-abbrev pub sheet_of : List ℕ → Sheet
+abbrev pub sheet_of : List ℕ → Result SheetJob Refusal
 sheet_of s = answer s (read_sheet s)

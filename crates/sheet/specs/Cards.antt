@@ -1,15 +1,14 @@
 -- What the reader knows of a list of cards while it reads. Assumes nothing.
-use Rattle.std.specs.Prelude.{Bool, false, not, cond, ◌&&◌, List, ◌≡◌, ℕ, suc, ◌+◌, ◌*◌, ◌<◌, ◌≤◌, eqb, length, get_or}
+use Rattle.std.specs.Prelude.{Option, Some, None, Bool, false, not, cond, ◌&&◌, List, ◌≡◌, ℕ, suc, ◌+◌, ◌*◌, ◌<◌, ◌≤◌, eqb, ltb, length, get_or}
 use Rattle.bits.specs.Below.{any}
 use Rattle.bits.specs.Columns.{column_of}
 use Rattle.bits.specs.Sizes.{most_class_levels}
 use Rattle.card.specs.Fields.{class_levels}
 
--- the first count entries of the array are cards of the sheet
-pub record Listing (s list : List ℕ) (count : ℕ) : Type 0 where
-  pub size : length list ≡ 64
-  pub fits : count ≤ 64
-  pub inside : (k : ℕ) → k < count → 16 * get_or list k 0 + 16 ≤ length s
+-- the list is of cards of the sheet, as many as a chain may have
+pub record Listing (s list : List ℕ) : Type 0 where
+  pub fits : length list ≤ 64
+  pub inside : (k : ℕ) → k < length list → 16 * get_or list k 0 + 16 ≤ length s
 
 -- the sheet s has n cards and a good number of class levels, and the marks are those of the cards reached
 pub record Marking (s : List ℕ) (n : ℕ) (marks : List Bool) (reached : ℕ → Bool) : Type 0 where
@@ -32,6 +31,6 @@ moved_at below above j k = equal_at below j k && not (equal_at above j k)
 abbrev pub moved_in : List ℕ → ℕ → ℕ → ℕ → Bool
 moved_in class n j k = any n (λ q. moved_at (column_of class (suc (suc q))) (column_of class (suc q)) j k)
 
--- which of four is the first that is true, counted from 1; 0 where none is
-unfoldable pub first_of_four : Bool → Bool → Bool → Bool → ℕ
-first_of_four a b c d = cond a 1 (cond b 2 (cond c 3 (cond d 4 0)))
+-- the place k where it is one of count, and none where it is past them
+unfoldable pub place_below : ℕ → ℕ → Option ℕ
+place_below count k = cond (ltb k count) (Some k) None

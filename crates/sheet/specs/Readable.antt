@@ -71,7 +71,7 @@ pub record ReadableJob (people steps rules : ℕ) (j : SheetJob) : Type 0 where
   pub nested : (q p r : ℕ) → 1 ≤ q → suc q < j.levels → p < people → r < people
       → class_entry j.class (suc q) p ≡ class_entry j.class (suc q) r → class_entry j.class q p ≡ class_entry j.class q r
 
--- what is known where the reader gives counts, of the sheet s and of the job j beside them
+-- what is known where the reader gives a job, of the sheet s, of the counts and of the job j
 pub record ReadSheet (s : List ℕ) (people steps rules : ℕ) (j : SheetJob) : Type 0 where
   pub person_cards : List ℕ
   pub step_cards : List ℕ

@@ -4,7 +4,7 @@ ghost use Rattle.std.specs.Prelude.{◌≡◌, ◌+◌, ◌-◌, ◌<◌, ◌≤
 ghost use Rattle.bits.specs.Below.{any};
 ghost use Rattle.bits.specs.Sizes.{most_levels, class_words};
 ghost use Rattle.bits.specs.Slots.{FirstOfSlot};
-ghost use Rattle.sheet.specs.Cards.{equal_at, moved_at, moved_in};
+ghost use Rattle.sheet.specs.Cards.{equal_at, moved_at, moved_in, place_below};
 ghost use Rattle.sheet.specs.Read.{first_clash};
 ghost use Rattle.sheet.specs.Slots.{SlotsMarked, Unmoved};
 
@@ -18,13 +18,12 @@ fn tag_stood(tags: &[u32], k: usize) -> bool
     ensures { result ≡ any k (λ j. equal_at tags.now j k) }
 {
     let tag = tags[k];
-    let mut found = false;
-    let mut j = 0;
-    while j < k {
-        found = found | (tags[j] == tag);
-        j += 1;
+    for j in 0..k {
+        if tags[j] == tag {
+            return true;
+        }
     }
-    found
+    false
 }
 
 // The same where the slots of the tags before `k` are marked; marks the slot of `k` too.
@@ -40,20 +39,18 @@ fn tag_again(tags: &[u32], k: usize, marks: &mut [bool; SLOTS]) -> bool
     false
 }
 
-// The first of `count` tags that stood earlier; `count` where none did.
-pub fn tag_clash(tags: &[u32], count: usize) -> usize
+// The first of `count` tags that stood earlier.
+pub fn tag_clash(tags: &[u32], count: usize) -> Option<usize>
     requires { count ≤ length tags.now }
-    ensures { result ≡ first_clash count (equal_at tags.now) }
+    ensures { result ≡ place_below count (first_clash count (equal_at tags.now)) }
 {
     let mut marks = [false; SLOTS];
-    let mut k = 0;
-    while k < count {
+    for k in 0..count {
         if tag_again(tags, k, &mut marks) {
-            return k;
+            return Some(k);
         }
-        k += 1;
     }
-    count
+    None
 }
 
 // Whether the class at `k` stands at an earlier place with another above.
@@ -63,13 +60,12 @@ fn class_stood(below: &PersonWords, above: &PersonWords, k: usize) -> bool
 {
     let class = below[k];
     let whole = above[k];
-    let mut found = false;
-    let mut j = 0;
-    while j < k {
-        found = found | ((below[j] == class) & (above[j] != whole));
-        j += 1;
+    for j in 0..k {
+        if (below[j] == class) & (above[j] != whole) {
+            return true;
+        }
     }
-    found
+    false
 }
 
 // The same where no class before `k` did so, with the first person of each slot.
@@ -84,34 +80,31 @@ fn class_again(below: &PersonWords, above: &PersonWords, k: usize, firsts: &mut 
     class_stood(below, above, k)
 }
 
-// The first of `count` people whose class stood earlier with another above; `count` where there is none.
-fn level_clash(below: &PersonWords, above: &PersonWords, count: usize) -> usize
+// The first of `count` people whose class stood earlier with another above.
+fn level_clash(below: &PersonWords, above: &PersonWords, count: usize) -> Option<usize>
     requires { (count ≤ 64) × (length below.now ≡ 64) × (length above.now ≡ 64) }
-    ensures { result ≡ first_clash count (moved_at below.now above.now) }
+    ensures { result ≡ place_below count (first_clash count (moved_at below.now above.now)) }
 {
     let mut firsts = [0u8; SLOTS];
-    let mut k = 0;
-    while k < count {
+    for k in 0..count {
         if class_again(below, above, k, &mut firsts) {
-            return k;
+            return Some(k);
         }
-        k += 1;
     }
-    count
+    None
 }
 
 // The same over all class levels together, the person being the last of the levels: each level is gone through up to the first person found so far.
-pub fn class_clash(class: &ClassWords, levels: usize, count: usize) -> usize
+pub fn class_clash(class: &ClassWords, levels: usize, count: usize) -> Option<usize>
     requires { (length class.now ≡ class_words) × (levels ≤ most_levels) × (count ≤ 64) }
-    ensures { result ≡ first_clash count (moved_in class.now (levels - 2)) }
+    ensures { result ≡ place_below count (first_clash count (moved_in class.now (levels - 2))) }
 {
-    let mut first = count;
-    let mut q = 2;
-    while q < levels {
+    let mut found = None;
+    for q in 2..levels {
         let above = column(class, q - 1);
         let below = column(class, q);
-        first = level_clash(&below, &above, first);
-        q += 1;
+        let first = found.unwrap_or(count);
+        found = level_clash(&below, &above, first).or(found);
     }
-    first
+    found
 }

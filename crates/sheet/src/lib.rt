@@ -10,10 +10,11 @@ use bits::sizes::{
     RuleBytes,
 };
 use card::fields::header_ok;
-use card::refusal::{HEADER_FAULT, LENGTH_FAULT};
-use read::{read_people, refused};
+use card::refusal::{Fault, Refusal};
+use read::read_people;
 
 mod clash;
+mod given;
 mod late;
 mod loose;
 mod read;
@@ -22,6 +23,9 @@ mod tables;
 // The job that a sheet describes: people, steps and rules along their chains, zeros after the last.
 #[derive(Clone, Copy)]
 pub struct SheetJob {
+    pub people: usize,
+    pub steps: usize,
+    pub rules: usize,
     // The class levels, and the person as the last level.
     pub levels: usize,
     pub person_tag: [u32; MOST_PEOPLE],
@@ -36,26 +40,6 @@ pub struct SheetJob {
     pub rule_limit: RuleBytes,
 }
 
-#[derive(Clone, Copy)]
-pub enum Reading {
-    Readable {
-        people: usize,
-        steps: usize,
-        rules: usize,
-    },
-    Refused {
-        refusal: u32,
-        card: usize,
-    },
-}
-
-// The reader's answer, and the job's arrays beside it: all zeros with a refusal.
-#[derive(Drop)]
-pub struct Sheet {
-    pub reading: Reading,
-    pub job: SheetJob,
-}
-
 // Whether a length is one that a sheet may have.
 fn length_ok(n: usize) -> bool
     ensures { result ≡ length_ok n }
@@ -64,16 +48,16 @@ fn length_ok(n: usize) -> bool
 }
 
 // Reads a sheet: any bytes at all, however long or garbled.
-pub fn read_sheet(sheet: &[u8]) -> Sheet
+pub fn read_sheet(sheet: &[u8]) -> Result<SheetJob, Refusal>
     ensures { result ≡ sheet_of sheet.now }
 {
     let n = sheet.len();
     if !length_ok(n) {
-        return refused(LENGTH_FAULT, 0);
+        return Err(Fault::Length.on(0));
     }
     let cards = n / CARD;
     if !header_ok(sheet, cards) {
-        return refused(HEADER_FAULT, 0);
+        return Err(Fault::Header.on(0));
     }
     read_people(sheet, cards)
 }

@@ -1,4 +1,5 @@
 -- `remaining::job_over` meets its contract: each array is that of `job_over`. Assumes nothing.
+use lib.ListN.{length}
 use Rattle.sheet.specs.Answer.{zeros}
 use Rattle.remaining.specs.Remaining.{job_over}
 use Rattle.remaining.proofs.job_over.Goals as goal
@@ -9,6 +10,9 @@ returns c =
     λ i.
     let j = c.args.job in
     record {
+      people = j.people;
+      steps = length c.args.kept.now;
+      rules = j.rules;
       levels = j.levels;
       person_tag = j.person_tag;
       step_tag = c.tags_left.ensures i;

@@ -8,31 +8,10 @@ use Rattle.remaining.proofs.sets_left.Goals as goal
 pub loop-i-init : goal.loop-i-init
 loop-i-init c = filled_none 64 _ _ _ _ refl
 
-pub offset_bounds-sets-i : goal.offset_bounds-sets-i
-offset_bounds-sets-i c = omega arith
-
-pub bounds-sets-i : goal.bounds-sets-i
-bounds-sets-i c = omega arith
-
-pub gathered-requires : goal.gathered-requires
-gathered-requires c = c.requires.1
-
-pub offset_bounds-left-i : goal.offset_bounds-left-i
-offset_bounds-left-i c = omega arith
-
-pub bounds-left-i : goal.bounds-left-i
-bounds-left-i c = omega arith
-
-pub overflow_step-i : goal.overflow_step-i
-overflow_step-i c = omega arith
-
-pub loop-i-smaller : goal.loop-i-smaller
-loop-i-smaller c = omega arith
-
 pub loop-i-preserved : goal.loop-i-preserved
 loop-i-preserved c =
-    filled_more _ _ _ _ _ _ c.loop-i.invariant c.loop-i-test.true (omega arith) (omega (arith, c.requires.0)) _ c.gathered.ensures
+    filled_more _ _ _ _ _ _ c.loop-i.invariant (omega arith) (omega arith) (omega (arith, c.requires.0)) _ c.gathered.ensures
 
 pub returns : goal.returns
 returns c =
-    filled_all _ _ _ _ _ _ c.loop-i.invariant c.loop-i-test.false ∙ table_full 64 _ c.args.sets.now c.requires.0
+    filled_all _ _ _ _ _ _ c.loop-i.invariant (omega arith) ∙ table_full 64 _ c.args.sets.now c.requires.0

@@ -4,6 +4,7 @@ use mathlib.Core.Path.{sym, ◌∙◌}
 use Rattle.bits.proofs.SlotLaws.{firsts_none}
 use Rattle.sheet.specs.Read.{first_clash}
 use Rattle.bits.proofs.Scan.{passed_none, passed_more, passed_found, passed_all}
+use Rattle.sheet.proofs.Found.{found_place, no_place}
 use Rattle.sheet.proofs.clash.level_clash.Goals as goal
 
 pub loop-k-init : goal.loop-k-init
@@ -17,13 +18,9 @@ class_again-requires c =
 
 pub returns-then-class_again : goal.returns-then-class_again
 unfolding first_clash
-returns-then-class_again c = passed_found _ _ _ c.loop-k.invariant.0 c.loop-k-test.true (sym c.class_again.ensures.0 ∙ c.if-class_again.true)
-
-pub overflow_add-k : goal.overflow_add-k
-overflow_add-k c = omega arith
-
-pub loop-k-smaller : goal.loop-k-smaller
-loop-k-smaller c = omega arith
+returns-then-class_again c =
+    let l = c.loop-k-test.true in
+    found_place l (passed_found _ _ _ c.loop-k.invariant.0 l (sym c.class_again.ensures.0 ∙ c.if-class_again.true))
 
 pub loop-k-preserved : goal.loop-k-preserved
 loop-k-preserved c = (
@@ -33,4 +30,4 @@ loop-k-preserved c = (
 
 pub returns : goal.returns
 unfolding first_clash
-returns c = passed_all _ _ _ c.loop-k.invariant.0 c.loop-k-test.false
+returns c = no_place (passed_all _ _ _ c.loop-k.invariant.0 c.loop-k-test.false)

@@ -1,4 +1,3 @@
-use Prim.Native.Nat.{◌-◌}
 use Rattle.bits.specs.Below.{any}
 use Rattle.bits.specs.Slots.{FirstOfSlot}
 use Rattle.sheet.specs.Cards.{moved_at}
@@ -7,6 +6,3 @@ use Rattle.sheet.proofs.clash.level_clash.Given as goal
 
 abbrev pub invariant-loop-k : goal.invariant-loop-k
 invariant-loop-k l = Passed l.count (λ i. any i (λ j. moved_at l.below l.above j i)) l.k × FirstOfSlot l.below l.k l.firsts
-
-abbrev pub decreases-loop-k : goal.decreases-loop-k
-decreases-loop-k l = l.count - l.k

@@ -1,4 +1,3 @@
-use Prim.Native.Nat.{◌-◌}
 use Rattle.bits.specs.Below.{any}
 use Rattle.sheet.specs.Cards.{equal_at}
 use Rattle.sheet.specs.Slots.{SlotsMarked}
@@ -7,6 +6,3 @@ use Rattle.sheet.proofs.clash.tag_clash.Given as goal
 
 abbrev pub invariant-loop-k : goal.invariant-loop-k
 invariant-loop-k l = Passed l.count (λ i. any i (λ j. equal_at l.tags j i)) l.k × SlotsMarked l.tags l.k l.marks
-
-abbrev pub decreases-loop-k : goal.decreases-loop-k
-decreases-loop-k l = l.count - l.k

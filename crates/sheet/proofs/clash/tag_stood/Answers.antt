@@ -1,14 +1,12 @@
--- The invariant: found says whether one of the places passed has the clash. Assumes nothing.
+-- The invariant: none of the places passed has the clash. Assumes nothing.
+use mathlib.Core.Path.{sym}
 use native.Mathlib.Omega.{arith}
-use mathlib.Core.Path.{refl}
-use Rattle.bits.proofs.Scan.{any-zero, any_more, any-all}
+use borrow.Author.Tests.{eq-eqb}
+use Rattle.bits.proofs.Counting.{any_of, none_any}
 use Rattle.sheet.proofs.clash.tag_stood.Goals as goal
 
-pub loop-j-init : goal.loop-j-init
-loop-j-init c = (omega arith, any-zero _)
-
-pub loop-j-preserved : goal.loop-j-preserved
-loop-j-preserved c = (omega arith, any_more _ _ _ _ c.loop-j.invariant.1 refl)
+pub returns-then-tags-j : goal.returns-then-tags-j
+returns-then-tags-j c = sym (any_of c.args.k _ c.loop-j.j c.loop-j-test.true (eq-eqb _ _ c.if-tags-j.true))
 
 pub returns : goal.returns
-returns c = any-all _ _ _ _ c.loop-j.invariant.0 c.loop-j-test.false c.loop-j.invariant.1
+returns c = sym (none_any c.args.k _ (λ j l. c.loop-j.invariant.not_yet j (omega arith)))

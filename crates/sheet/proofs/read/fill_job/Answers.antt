@@ -1,4 +1,5 @@
 -- `sheet::read::fill_job` meets its contract: each array is its table. Assumes nothing.
+use lib.ListN.{length}
 use Prim.Native.Nat.{◌+◌}
 use native.Mathlib.Omega.{arith}
 use Rattle.sheet.specs.Answer.{job_of}
@@ -20,6 +21,9 @@ unfolding job_of
 returns c =
     λ i.
     record {
+      people = length c.args.people.now;
+      steps = length c.args.steps.now;
+      rules = length c.args.rules.now;
       levels = (c.class_levels-above.ensures.0 i) + 1;
       person_tag = c.tags.ensures i;
       step_tag = c.tags-2.ensures i;

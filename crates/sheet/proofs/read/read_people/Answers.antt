@@ -1,35 +1,39 @@
 -- Each return is one case of `read_people`. Assumes nothing.
-use mathlib.Core.Bool.{false}
 use native.Mathlib.Omega.{arith}
-use lib.ListN.{replicate}
+use mathlib.Core.Path.{◌∙◌, ap}
+use Rattle.card.specs.Kinds.{kind_number}
+use Rattle.std.proofs.lemmas.Result.{err_from_is_err_and}
+use Rattle.sheet.specs.Answer.{answer}
 use Rattle.sheet.proofs.Stage.{stage_refused, stage_listed, stage_listing, stage_marking, nothing_marked}
-use Rattle.sheet.proofs.Order.{people_refused, people_listed}
-use Rattle.sheet.specs.Cards.{Marking}
+use Rattle.sheet.proofs.Order.{after_people_walk}
+use Rattle.sheet.proofs.Found.{refusal}
 use Rattle.sheet.proofs.read.read_people.Goals as goal
-use Rattle.sheet.proofs.read.read_people.Goals.{Start}
 
--- no card is marked where the walk starts
-unmarked : (c : Start) → let a = c.args in
-    Marking a.s.now a.cards (replicate 141 false) (λ x. false)
-unmarked c = let q = c.requires in nothing_marked _ _ q.1 q.2 q.0 q.3
+pub returns-in_err-p : goal.returns-in_err-p
+unfolding kind_number
+returns-in_err-p c =
+    let p = err_from_is_err_and c.from_residual.result c.from_residual.ensures.1 in
+    let q = c.requires in
+    rw (p.1, p.2)
+    (refusal _
+    (after_people_walk _ _
+    (stage_refused _ _ (nothing_marked _ _ q.1 q.2 q.0 q.3) (omega arith) c.word-first.ensures.0 c.walk_chain.ensures c.in_err-p.was)))
 
 pub after_people-requires : goal.after_people-requires
+unfolding kind_number
 after_people-requires c =
     let first = c.word-first.ensures.0 in
-    let ended = c.in-Listed.is in (
-      stage_listing _ _ (unmarked c.before.before.before.before.before.before.before.before.before) (omega arith) first c.walk_chain-ended.ensures ended,
-      stage_marking _ _ (unmarked c.before.before.before.before.before.before.before.before.before) (omega arith) first c.walk_chain-ended.ensures ended,
+    let q = c.requires in
+    let ended = c.in_ok-p.was in (
+      stage_listing _ _ (nothing_marked _ _ q.1 q.2 q.0 q.3) (omega arith) first c.walk_chain.ensures ended,
+      stage_marking _ _ (nothing_marked _ _ q.1 q.2 q.0 q.3) (omega arith) first c.walk_chain.ensures ended,
     )
 
-pub returns-in-Refused : goal.returns-in-Refused
-returns-in-Refused c =
-    let first = c.word-first.ensures.0 in
-    people_refused _ _ (stage_refused _ _ (unmarked c.before.before.before.before.before.before.before.before) (omega arith) first c.walk_chain-ended.ensures c.in-Refused.is)
-    c.refused.ensures
-
-pub returns-in-Listed : goal.returns-in-Listed
-returns-in-Listed c =
-    let first = c.word-first.ensures.0 in
-    let ended = c.in-Listed.is in
-    people_listed _ _ (stage_listed _ _ (unmarked c.before.before.before.before.before.before.before.before.before.before) (omega arith) first c.walk_chain-ended.ensures ended)
+pub returns : goal.returns
+unfolding kind_number
+returns c =
+    let q = c.requires in
     c.after_people.ensures
+    ∙ ap (answer c.args.s.now)
+    (after_people_walk _ _
+    (stage_listed _ _ (nothing_marked _ _ q.1 q.2 q.0 q.3) (omega arith) c.word-first.ensures.0 c.walk_chain.ensures c.in_ok-p.was))

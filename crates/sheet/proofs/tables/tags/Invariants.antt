@@ -1,4 +1,3 @@
-use Prim.Native.Nat.{◌-◌}
 use mathlib.Core.Path.{◌≡◌}
 use lib.ListN.{length}
 use Rattle.sheet.proofs.Fill.{Filled}
@@ -6,7 +5,4 @@ use Rattle.card.specs.Layout.{card_long}
 use Rattle.sheet.proofs.tables.tags.Given as goal
 
 abbrev pub invariant-loop-k : goal.invariant-loop-k
-invariant-loop-k l = Filled (length l.initial.out) (λ c. card_long l.s c 4) l.list l.count l.out l.k × (length l.out ≡ length l.initial.out)
-
-abbrev pub decreases-loop-k : goal.decreases-loop-k
-decreases-loop-k l = l.count - l.k
+invariant-loop-k l = Filled (length l.initial.out) (λ c. card_long l.s c 4) l.list (length l.list) l.out l.k × (length l.out ≡ length l.initial.out)

@@ -1,10 +1,7 @@
-use Prim.Native.Nat.{◌-◌}
+use lib.ListN.{length}
 use Rattle.sheet.proofs.Fill.{Filled}
 use Rattle.card.specs.Layout.{card_word}
 use Rattle.sheet.proofs.tables.words.Given as goal
 
 abbrev pub invariant-loop-k : goal.invariant-loop-k
-invariant-loop-k l = Filled 64 (λ c. card_word l.s c l.at) l.list l.count l.out l.k
-
-abbrev pub decreases-loop-k : goal.decreases-loop-k
-decreases-loop-k l = l.count - l.k
+invariant-loop-k l = Filled 64 (λ c. card_word l.s c l.at) l.list (length l.list) l.out l.k
