@@ -1,5 +1,4 @@
 -- The crew call's definition, by what the reader's answer is. Assumes nothing.
-use mathlib.Core.Bool.{Bool, true, false}
 use mathlib.Core.List.{List, [], ◌∷◌, ◌++◌}
 use mathlib.Core.Path.{◌≡◌, refl, sym, ◌∙◌, ap, ap₂}
 use Prim.Native.Nat.{ℕ, zero, suc, ◌*◌, ◌<◌, ◌≤◌}
@@ -8,28 +7,30 @@ use lib.ListN.{length, get_or, drop}
 use borrow.Author.Tests.{lt-ltb, le-ltb}
 use Rattle.remaining.specs.Remaining.{remaining_of}
 use Rattle.sheet.specs.declared.SheetJob as sheet
-use Rattle.sheet.specs.declared.Reading.TheVariants.{Readable, Refused}
+use Rattle.std.specs.Prelude.{Option, Some, None, Ok, Err}
+use Rattle.card.specs.declared.refusal.Fault.TheVariants.{Plan}
+use Rattle.card.specs.declared.refusal.Refusal.{Refusal}
 use Rattle.remaining.proofs.Laws.{read_job_fault}
 use Rattle.answer.proofs.WasRead.{was_job}
-use Rattle.workflow.specs.First.{found, nothing, first_plan, found_as, list_of, plan_of}
+use Rattle.workflow.specs.First.{found, nothing, first_plan, list_of, plan_of}
 use Rattle.workflow.proofs.Lists.{plan_of-list_of}
 use Rattle.instance.specs.Instance.{instance_of, may_of, crew_tags}
 use Rattle.answer.specs.Bytes.{refused, written}
-use Rattle.answer.specs.Number.{refusal_number}
-use Rattle.card.specs.Refusals.{short_fault, plan_fault}
-use Rattle.answer.specs.Crew.{crew_answer, crew_read, crew_of, planned}
+use Rattle.answer.specs.Number.{refusal_number, number_of}
+use Rattle.card.specs.Refusals.{short_fault, plan_fault, fault_number}
+use Rattle.answer.specs.Crew.{crew_answer, crew_read, crew_of, found_in, planned}
 
 module _ (s buffer : List ℕ) where
   -- a sheet that was read
-  pub crew_read_lem : (people steps rules : ℕ) → (remaining_of s).reading ≡ Readable people steps rules → crew_answer s buffer ≡ crew_of people steps rules (remaining_of s).job buffer
+  pub crew_read_lem : (j : sheet.SheetJob) → remaining_of s ≡ Ok j → crew_answer s buffer ≡ crew_of j.people j.steps j.rules j buffer
   unfolding crew_read
-  crew_read_lem people steps rules e =
-      was_job s (remaining_of s) refl people steps rules e (λ (p n r : ℕ) (j : sheet.SheetJob). crew_of p n r j buffer) (crew_read s buffer) (λ p t r. refl)
+  crew_read_lem j e =
+      was_job s refl e (λ (p n r : ℕ) (i : sheet.SheetJob). crew_of p n r i buffer) (crew_read s buffer) (λ p t r. refl)
 
   -- a sheet that was refused
-  pub crew_refused : (f c : ℕ) → (remaining_of s).reading ≡ Refused f c → crew_answer s buffer ≡ refused f c buffer
+  pub crew_refused : (r : Refusal) → remaining_of s ≡ Err r → crew_answer s buffer ≡ refused (fault_number r.fault) r.card buffer
   unfolding crew_read
-  crew_refused f c e = ap (crew_read s buffer) (read_job_fault s f c e)
+  crew_refused r e = ap (crew_read s buffer) (read_job_fault s r e)
 
 -- the cases of a job with these counts
 module _ (people steps rules : ℕ) (j : sheet.SheetJob) (buffer : List ℕ) where
@@ -59,18 +60,18 @@ tags_cong st pt xs ys (suc n) h =
     ap₂ (λ (a : List ℕ) (p : ℕ). a ++ get_or st n 0 ∷ get_or pt p 0 ∷ []) (tags_cong st pt xs ys n (λ s l. h s (omega arith))) (h n (omega arith))
 
 -- the answer with what was found: number and bytes
-module _ (j : sheet.SheetJob) (steps : ℕ) (buffer plan : List ℕ) (won : Bool) where
+module _ (j : sheet.SheetJob) (steps : ℕ) (buffer : List ℕ) (o : Option (List ℕ)) where
   abbrev Answers : ℕ → List ℕ → Type 0
-  Answers n out = (n ≡ (planned j steps buffer (found_as steps won plan)).number) × (out ≡ (planned j steps buffer (found_as steps won plan)).bytes)
+  Answers n out = (n ≡ (planned j steps buffer (found_in steps o)).number) × (out ≡ (planned j steps buffer (found_in steps o)).bytes)
 
-  pub answers_none : won ≡ false → (n : ℕ) → n ≡ refusal_number plan_fault 0 → Answers n buffer
-  unfolding planned
-  answers_none w n e = rw w (e, refl)
+  pub answers_none : o ≡ None → {r : Refusal} → r ≡ record { fault = Plan; card = 0 } → Answers (number_of (Err r)) buffer
+  unfolding planned fault_number
+  answers_none w e = rw w (ap (λ (x : Refusal). refusal_number (fault_number x.fault) x.card) e, refl)
 
-  pub answers_found : won ≡ true → (out : List ℕ) → out ≡ written (crew_tags j.step_tag j.person_tag plan steps) ++ drop (8 * steps) buffer
+  pub answers_found : {plan : List ℕ} → o ≡ Some plan → {out : List ℕ} → out ≡ written (crew_tags j.step_tag j.person_tag plan steps) ++ drop (8 * steps) buffer
       → Answers 0 out
   unfolding planned
-  answers_found w out e =
+  answers_found {plan} w e =
       rw w (
         refl,
         e ∙ ap (λ (x : List ℕ). written x ++ drop (8 * steps) buffer)

@@ -1,5 +1,4 @@
 pub mod Put
-pub mod Returnable
 pub mod WasRead
 pub mod PutCrew
 pub mod CrewCases

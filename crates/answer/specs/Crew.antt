@@ -1,13 +1,24 @@
 -- The crew call: what it returns and leaves, for every sheet and every buffer. Assumes nothing.
-use Rattle.std.specs.Prelude.{cond, List, ◌++◌, ℕ, ◌*◌, ltb, length, drop}
+use Rattle.std.specs.Prelude.{Option, Some, None, cond, List, ◌++◌, ◌≡◌, ℕ, ◌*◌, ltb, length, drop}
 use Rattle.remaining.specs.Remaining.{steps_left, job_left}
 use Rattle.sheet.specs.Read.{Read, job, fault, read_sheet}
 use Rattle.sheet.specs.declared.SheetJob as sheet
 use Rattle.workflow.specs.Problem.{Job}
-use Rattle.workflow.specs.First.{Found, found, nothing, first_plan}
+use Rattle.workflow.specs.First.{Found, found, nothing, first_plan, list_of, plan_of}
 use Rattle.instance.specs.Instance.{instance_of, may_of, crew_tags}
+use Rattle.instance.specs.Figures.{Staffed}
 use Rattle.card.specs.Refusals.{short_fault, plan_fault}
 use Rattle.answer.specs.Bytes.{Outcome, refused, written}
+
+-- what a plan that is there or not says was found; the people of the first `steps` steps, or nothing
+abbrev pub found_in : ℕ → Option (List ℕ) → Found
+found_in steps (Some plan) = found (list_of steps (plan_of plan))
+found_in steps None = nothing
+
+-- a plan that is there has a place in the table of people for each step
+abbrev pub StaffedIn : ℕ → Option (List ℕ) → Type 0
+StaffedIn steps (Some plan) = (length plan ≡ 12) × Staffed steps plan
+StaffedIn steps None = Unit {0}
 
 -- "Crew: 8 bytes a step, step tag then person tag, steps in chain order." "Later bytes of the buffer keep their values."
 unfoldable pub planned : sheet.SheetJob → ℕ → List ℕ → Found → Outcome

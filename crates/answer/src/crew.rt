@@ -1,15 +1,14 @@
 // The answer of a crew call, once it is known whether there is a plan: the crew in the caller's buffer, 8 bytes a step, or a refusal.
-ghost use Rattle.std.specs.Prelude.{true, ◌++◌, ◌≡◌, ◌*◌, ◌≤◌, length, drop};
-ghost use Rattle.workflow.specs.First.{found_as};
+ghost use Rattle.std.specs.Prelude.{◌++◌, ◌≡◌, ◌*◌, ◌≤◌, length, drop};
 ghost use Rattle.instance.specs.Instance.{crew_tags};
 ghost use Rattle.instance.specs.Figures.{Staffed};
 ghost use Rattle.answer.specs.Bytes.{written};
-ghost use Rattle.answer.specs.Crew.{planned};
+ghost use Rattle.answer.specs.Crew.{found_in, planned, StaffedIn};
+ghost use Rattle.answer.specs.Number.{number_of};
 
 use super::bytes::put_long;
-use super::returned;
 use bits::sizes::{MOST_PEOPLE, MOST_STEPS, Plan};
-use card::refusal::PLAN_FAULT;
+use card::refusal::{Fault, Refusal};
 use sheet::SheetJob;
 
 // Writes the step's tag and the person's tag of each step.
@@ -32,17 +31,14 @@ fn write_crew(
 }
 
 // Answers with the plan that was found, for which the buffer has room, or that there is none.
-pub fn answer_crew(job: SheetJob, steps: usize, found: bool, plan: &Plan, buffer: &mut [u8]) -> u32
-    requires { (length plan.now ≡ 12) × (steps ≤ 12) × (8 * steps ≤ length buffer.old)
-        × (found ≡ true → Staffed steps plan.now) }
-    ensures { (result ≡ (planned job steps buffer.old (found_as steps found plan.now)).number)
-        × (buffer.new ≡ (planned job steps buffer.old (found_as steps found plan.now)).bytes) }
+pub fn answer_crew(job: &SheetJob, plan: Option<Plan>, buffer: &mut [u8]) -> Result<(), Refusal>
+    requires { (job.now.steps ≤ 12) × (8 * job.now.steps ≤ length buffer.old) × StaffedIn job.now.steps plan }
+    ensures { (number_of result ≡ (planned job.now job.now.steps buffer.old (found_in job.now.steps plan)).number)
+        × (buffer.new ≡ (planned job.now job.now.steps buffer.old (found_in job.now.steps plan)).bytes) }
 {
-    if !found {
-        return returned(PLAN_FAULT, 0);
-    }
-    let step_tag = job.step_tag;
-    let person_tag = job.person_tag;
-    write_crew(&step_tag, &person_tag, plan, steps, buffer);
-    0
+    let Some(plan) = plan else {
+        return Err(Fault::Plan.on(0));
+    };
+    write_crew(&job.step_tag, &job.person_tag, &plan, job.steps, buffer);
+    Ok(())
 }

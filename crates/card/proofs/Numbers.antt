@@ -70,3 +70,22 @@ number-some Ungranted e = absurd (omega arith)
 -- a refusal is that of its number and its card
 pub refusal-back : (r : Refusal) → refusal_numbered (fault_number r.fault) r.card ≡ r
 refusal-back r = ap (λ (f : Fault). record { fault = f; card = r.card }) (numbered-number r.fault)
+
+pub number-most : (f : Fault) → fault_number f ≤ 16
+unfolding fault_number
+number-most Short = omega arith
+number-most Cap = omega arith
+number-most Length = omega arith
+number-most Header = omega arith
+number-most Index = omega arith
+number-most Reached = omega arith
+number-most Kind = omega arith
+number-most Field = omega arith
+number-most Count = omega arith
+number-most Tag = omega arith
+number-most Class = omega arith
+number-most Loose = omega arith
+number-most Plan = omega arith
+number-most Unknown = omega arith
+number-most Signed = omega arith
+number-most Ungranted = omega arith

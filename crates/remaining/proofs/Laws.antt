@@ -1,7 +1,7 @@
 -- What the crates above know of a job without its skipped steps: of each of its arrays, and of the reading that gave it. Assumes nothing.
 use mathlib.Core.Bool.{Bool, false, ◌&&◌}
 use mathlib.Core.List.{List, map}
-use mathlib.Core.Path.{◌≡◌, refl, sym, ◌∙◌, ap, ap₂, subst}
+use mathlib.Core.Path.{◌≡◌, refl, sym, ◌∙◌, ap, subst}
 use Prim.Native.Nat.{ℕ, ◌/◌, ◌^◌, ◌<◌, ◌≤◌}
 use native.Mathlib.Omega.{arith}
 use lib.Dec.{eqb, ltb}
@@ -16,8 +16,8 @@ use Rattle.sheet.proofs.Columns.{classes_level}
 use Rattle.sheet.proofs.Fill.{get_d_table, length-table}
 use Rattle.sheet.proofs.Passes.{sheet_passes}
 use Rattle.sheet.proofs.Readable.{readable_job, read_sheet_job, sheet_levels}
-use Rattle.sheet.specs.Answer.{answer, job_of, sheet_of, table}
-use Rattle.sheet.specs.Read.{Read, job, fault, read_sheet}
+use Rattle.sheet.specs.Answer.{job_of, sheet_of, table}
+use Rattle.sheet.specs.Read.{job, fault, read_sheet}
 use Rattle.sheet.specs.Readable.{ReadableJob, ReadSheet}
 use Rattle.std.specs.Prelude.{Result, Ok, Err}
 use Rattle.card.specs.Refusals.{fault_number}

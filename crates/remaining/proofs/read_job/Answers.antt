@@ -1,6 +1,5 @@
 -- `remaining::read_job` meets its contract: each return is one case of `left_of`. Assumes nothing.
 use Rattle.std.proofs.lemmas.Result.{err_from_is_err_and}
-use Rattle.remaining.proofs.Keeping.{keeps_steps}
 use Rattle.remaining.proofs.Left.{returns_refused, was_read, returns_whole, returns_left}
 use Rattle.remaining.proofs.read_job.Goals as goal
 
