@@ -4,14 +4,15 @@ ghost use Rattle.bits.specs.Below.{first};
 ghost use Rattle.bits.specs.Sizes.{most_levels, class_words};
 ghost use Rattle.bits.specs.Word.{has_bit};
 ghost use Rattle.workflow.specs.Problem.{distinct, largest_load, figure_of};
-ghost use Rattle.workflow.specs.Numbered.{kind_in};
+ghost use Rattle.workflow.specs.Kinds.{kind_of};
 ghost use Rattle.workflow.specs.First.{plan_of};
 ghost use Rattle.instance.specs.Instance.{class_at};
 ghost use Rattle.instance.specs.Figures.{Columns, Staffed};
 
+use bits::set::{Set, members};
 use bits::sizes::{ClassWords, MOST_PEOPLE, MOST_STEPS, Plan};
-use bits::{set, small};
 use workflow::count::class_count;
+use workflow::kind::RuleKind;
 use workflow::load::largest_load;
 
 // The class of a person at a level: the person is the last of the levels.
@@ -47,12 +48,9 @@ fn rule_count(class: &ClassWords, levels: usize, level: u8, scope: u16, plan: &P
     ensures { (result ≤ 64) × ((n : ℕ) → scope < 2 ^ n
         → result ≡ distinct n (has_bit scope) (λ s. class_at levels class.now level (plan_of plan.now s))) }
 {
-    let mut left = scope;
     let mut labels: u64 = 0;
-    while left != 0 {
-        let next = small::take(left);
-        left = next.rest;
-        labels = set::with(labels, first_alike(class, levels, level, plan, next.first));
+    for s in members(scope) {
+        labels = labels.with(first_alike(class, levels, level, plan, s));
     }
     class_count(labels)
 }
@@ -71,11 +69,7 @@ fn labels_of(
         (class_at levels class.now level (plan_of plan.now s)))) }
 {
     let mut labels = [0u8; MOST_STEPS];
-    let mut left = scope;
-    while left != 0 {
-        let next = small::take(left);
-        left = next.rest;
-        let s = next.first;
+    for s in members(scope) {
         labels[s] = first_alike(class, levels, level, plan, s) as u8;
     }
     labels
@@ -91,21 +85,21 @@ fn rule_load(class: &ClassWords, levels: usize, level: u8, scope: u16, plan: &Pl
     largest_load(scope, &labels)
 }
 
-// The figure of a rule: the largest load for kind 5, and for the others the count.
+// The figure of a rule: the largest load for a rule of that name, and for the others the count.
 pub fn rule_figure(
     class: &ClassWords,
     levels: usize,
-    kind: u8,
+    kind: RuleKind,
     level: u8,
     scope: u16,
     plan: &Plan,
 ) -> usize
     requires { Columns levels class.now plan.now × (scope < 4096) × ((s : ℕ) → has_bit scope s ≡ true → Staffed (suc s) plan.now) }
     ensures { (result ≤ 64) × ((n : ℕ) → scope < 2 ^ n
-        → result ≡ figure_of (kind_in kind) n (has_bit scope) (λ s. class_at levels class.now level (plan_of plan.now s))) }
+        → result ≡ figure_of (kind_of kind) n (has_bit scope) (λ s. class_at levels class.now level (plan_of plan.now s))) }
 {
-    if kind > 4 {
-        return rule_load(class, levels, level, scope, plan);
+    match kind {
+        RuleKind::MaxLoad => rule_load(class, levels, level, scope, plan),
+        _ => rule_count(class, levels, level, scope, plan),
     }
-    rule_count(class, levels, level, scope, plan)
 }

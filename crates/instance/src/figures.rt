@@ -5,18 +5,19 @@ ghost use Rattle.instance.specs.Figures.{FiguresOf, kind_at, RulesStaffed, ForIn
 use super::figure::rule_figure;
 use bits::sizes::{MOST_RULES, Plan, RuleBytes};
 use sheet::SheetJob;
+use workflow::kind::RuleKind;
 
 // The figure of each rule, in chain order, for a plan of a job.
-pub fn rule_figures(job: SheetJob, rules: usize, plan: &Plan) -> RuleBytes
-    requires { RulesStaffed rules job plan.now }
-    ensures { ForInstances rules job (λ j. FiguresOf (kind_at job) j (plan_of plan.now) rules result) }
+pub fn rule_figures(job: &SheetJob, plan: &Plan) -> RuleBytes
+    requires { RulesStaffed job.now.rules job.now plan.now }
+    ensures { ForInstances job.now.rules job.now (λ j. FiguresOf (kind_at job.now) j (plan_of plan.now) job.now.rules result) }
 {
-    let kind = job.rule_kind;
-    let level = job.rule_level;
-    let scope = job.rule_scope;
     let mut figures = [0u8; MOST_RULES];
-    for i in 0..rules {
-        figures[i] = rule_figure(&job.class, job.levels, kind[i], level[i], scope[i], plan) as u8;
+    for i in 0..job.rules {
+        let kind = RuleKind::from(job.rule_kind[i]);
+        let scope = job.rule_scope[i];
+        let figure = rule_figure(&job.class, job.levels, kind, job.rule_level[i], scope, plan);
+        figures[i] = figure as u8;
     }
     figures
 }

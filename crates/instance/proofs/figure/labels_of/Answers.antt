@@ -1,48 +1,37 @@
 -- `instance::figure::labels_of` meets its contract: the labels are those of the classes of the steps passed. Assumes nothing.
 use mathlib.Core.Path.{refl, ◌∙◌}
 use native.Mathlib.Omega.{arith}
-use Prim.Native.Nat.{ℕ, ◌<◌}
 use lib.ListN.{length-set}
-use Rattle.workflow.specs.First.{plan_of}
 use Rattle.workflow.proofs.Labels.{part_rest, turn_below}
 use Rattle.workflow.proofs.Tally.{entered_none, entered_more, entered_all, entered_at}
-use Rattle.instance.specs.Instance.{class_at}
 use Rattle.instance.proofs.Classes.{alike_le}
 use Rattle.instance.proofs.figure.labels_of.Goals as goal
-use Rattle.instance.proofs.figure.labels_of.Goals.{After-take-next, Start}
 
-pub loop-left-init : goal.loop-left-init
-loop-left-init c = (λ s h. h, refl, entered_none)
-
--- the step of a turn is one of the scope's
-turn : (c : After-take-next) → c.take-next.result.first < 12
-turn c = turn_below c.args.scope c.loop-left.invariant.0 c.take-next.ensures.1 12 c.requires.1
-
--- the class of each step's person
-abbrev classes : Start → ℕ → ℕ
-classes c s = let a = c.args in class_at a.levels a.class.now a.level (plan_of a.plan.now s)
+pub loop-s-init : goal.loop-s-init
+loop-s-init c = rw c.into_iter-s-iterator.ensures.into_iter_gives (rw c.members-s-items.ensures (λ s h. h, refl, entered_none))
 
 pub first_alike-requires : goal.first_alike-requires
-first_alike-requires c =
-    (c.requires.0, turn c, c.requires.2 c.take-next.result.first (c.loop-left.invariant.0 _ c.take-next.ensures.1.lowest.has))
+first_alike-requires c = (
+  c.requires.0,
+  turn_below c.args.scope c.loop-s.invariant.0 c.in-Some.ensures.steps.1 12 c.requires.1,
+  c.requires.2 c.in-Some.s (c.loop-s.invariant.0 _ c.in-Some.ensures.steps.1.lowest.has),
+)
 
 pub overflow_cast-labels : goal.overflow_cast-labels
-overflow_cast-labels c = omega (arith, alike_le (classes c.before.before.before.before) _ _ c.first_alike.ensures, turn c.before)
+overflow_cast-labels c =
+    omega (arith, alike_le _ _ _ c.first_alike.ensures, turn_below c.args.scope c.loop-s.invariant.0 c.in-Some.ensures.steps.1 12 c.requires.1)
 
 pub bounds-labels-s : goal.bounds-labels-s
-bounds-labels-s c = turn c.before
+bounds-labels-s c = turn_below c.args.scope c.loop-s.invariant.0 c.in-Some.ensures.steps.1 12 c.requires.1
 
-pub loop-left-smaller : goal.loop-left-smaller
-loop-left-smaller c = c.take-next.ensures.1.less
-
-pub loop-left-preserved : goal.loop-left-preserved
-loop-left-preserved c =
-    let l = c.loop-left in
-    let first = c.take-next.ensures.1 in (
+pub loop-s-preserved : goal.loop-s-preserved
+loop-s-preserved c =
+    let l = c.loop-s in
+    let first = c.in-Some.ensures.steps.1 in (
       part_rest c.args.scope l.invariant.0 first,
-      length-set l.labels c.take-next.result.first _ ∙ l.invariant.1,
+      length-set l.labels c.in-Some.s _ ∙ l.invariant.1,
       entered_more l.invariant.2 l.invariant.0 first c.requires.1 l.invariant.1 c.first_alike.ensures,
     )
 
 pub returns : goal.returns
-returns c = let l = c.loop-left in (l.invariant.1, entered_at (entered_all l.invariant.2 c.loop-left-test.false))
+returns c = let l = c.loop-s in (l.invariant.1, entered_at (entered_all l.invariant.2 c.in-None.ensures.steps.0))

@@ -7,9 +7,6 @@ use Rattle.instance.specs.Instance.{class_at}
 use Rattle.instance.proofs.Classes.{first_alike}
 use Rattle.instance.proofs.figure.labels_of.Given as goal
 
-abbrev pub invariant-loop-left : goal.invariant-loop-left
-invariant-loop-left l =
-    Part l.scope l.left × (length l.labels ≡ 12) × Entered l.scope (first_alike (λ s. class_at l.levels l.class l.level (plan_of l.plan s))) l.left l.labels
-
-abbrev pub decreases-loop-left : goal.decreases-loop-left
-decreases-loop-left l = l.left
+abbrev pub invariant-loop-s : goal.invariant-loop-s
+invariant-loop-s l =
+    Part l.scope l.s-iterator.left × (length l.labels ≡ 12) × Entered l.scope (first_alike (λ s. class_at l.levels l.class l.level (plan_of l.plan s))) l.s-iterator.left l.labels
