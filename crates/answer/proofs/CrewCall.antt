@@ -2,9 +2,8 @@
 use mathlib.Core.List.{List}
 use mathlib.Core.Path.{◌≡◌, sym, ◌∙◌, ap}
 use Prim.Native.Nat.{ℕ, ◌*◌, ◌<◌, ◌≤◌}
-use native.Mathlib.Omega.{arith}
 use lib.ListN.{length}
-use Rattle.std.specs.Prelude.{Option, Some, None, Result, Ok, Err}
+use Rattle.std.specs.Prelude.{Option, Result, Ok, Err}
 use Rattle.card.specs.Refusals.{fault_number}
 use Rattle.card.specs.declared.refusal.Fault.TheVariants.{Short}
 use Rattle.card.specs.declared.refusal.Refusal.{Refusal}
@@ -12,12 +11,9 @@ use Rattle.remaining.specs.Remaining.{remaining_of}
 use Rattle.sheet.specs.declared.SheetJob.{SheetJob}
 use Rattle.workflow.specs.First.{first_plan}
 use Rattle.instance.specs.Instance.{instance_of, may_of}
-use Rattle.instance.specs.Figures.{Staffed}
 use Rattle.answer.specs.Bytes.{Outcome}
-use Rattle.answer.specs.Crew.{crew_answer, crew_of, found_in, planned, StaffedIn}
+use Rattle.answer.specs.Crew.{crew_answer, crew_of, found_in, planned}
 use Rattle.answer.specs.Number.{refusal_number, number_of}
-use Rattle.answer.proofs.Found.{found_within}
-use Rattle.answer.proofs.WasRead.{was_readable}
 use Rattle.answer.proofs.CrewCases.{crew_read_lem, crew_refused, crew_short, crew_room}
 
 -- what a return has to show: the number, and every byte
@@ -43,17 +39,6 @@ module _ (s buffer : List ℕ) {a : Result SheetJob Refusal} (e : a ≡ remainin
 
     -- where the buffer has room, and a plan was looked for
     module _ (plan : Option (List ℕ)) (is : first_plan (instance_of j.people j.steps j.rules j) (may_of j) ≡ found_in j.steps plan) where
-      plan_below : {p : List ℕ} → plan ≡ Some p → Staffed j.steps p
-      plan_below w t l =
-          omega (arith, found_within (instance_of j.people j.steps j.rules j) (may_of j) plan is w t l, (was_readable s e d).people_most)
-
-      pub plan_staffed : ((p : List ℕ) → plan ≡ Some p → length p ≡ 12) → StaffedIn j.steps plan
-      plan_staffed sized = go plan (λ p w. (sized p w, plan_below w))
-        where
-          go : (o : Option (List ℕ)) → ((p : List ℕ) → o ≡ Some p → (length p ≡ 12) × Staffed j.steps p) → StaffedIn j.steps o
-          go None h = tt
-          go (Some p) h = h p (λ i. Some p)
-
       pub returns_planned : 8 * j.steps ≤ length buffer → {n : ℕ} {out : List ℕ}
           → n ≡ (planned j j.steps buffer (found_in j.steps plan)).number → out ≡ (planned j j.steps buffer (found_in j.steps plan)).bytes
           → Returns s buffer n out
