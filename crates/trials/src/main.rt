@@ -85,9 +85,10 @@ fn next_record<R: Read>(rt: &impl Print, from: &mut R) -> io::Result<bool> {
 
 fn main(rt: HostRuntime) -> io::Result<()> {
     let mut from = rt.reader();
-    let mut left = MOST_RECORDS;
-    while left > 0 && next_record(&rt, &mut from)? {
-        left -= 1;
+    for _ in 0..MOST_RECORDS {
+        if !next_record(&rt, &mut from)? {
+            break;
+        }
     }
     Ok(())
 }
