@@ -3,18 +3,9 @@ use mathlib.Core.List.{List, [], ◌∷◌, ◌++◌, append_assoc}
 use mathlib.Core.Path.{◌≡◌, refl, sym, ◌∙◌, ap, ap₂}
 use Prim.Native.Nat.{ℕ, ◌+◌, ◌*◌, ◌≤◌}
 use native.Mathlib.Omega.{arith}
-use native.Mathlib.Numerals.{towards_suc}
-use lib.ListN.{length, drop, set, length-append}
-use lib.Seq.{sets, sets-eq, take_at, drop-drop, drop-append-add}
+use lib.ListN.{length, drop, length-append}
+use lib.Seq.{take_at, drop-drop, drop-append-add}
 use Rattle.answer.specs.Bytes.{long_bytes, put_at, written}
-
--- four stores put four bytes
-pub put_four : (out : List ℕ) (at a b c d : ℕ) → at + 4 ≤ length out
-    → set (set (set (set out at a) (at + 1) b) (at + 2) c) (at + 3) d ≡ put_at out at (a ∷ b ∷ c ∷ d ∷ [])
-unfolding put_at
-put_four out at a b c d h =
-    let e : set (set (set (set out at a) (at + 1) b) (at + 2) c) (at + 3) d ≡ sets out at (a ∷ b ∷ c ∷ d ∷ []) = simp towards_suc in
-    e ∙ sets-eq (a ∷ b ∷ c ∷ d ∷ []) out at h
 
 -- a further number after those already put
 pub put_next : (done bytes buffer : List ℕ) (k : ℕ) → length done ≡ k → k + length bytes ≤ length buffer

@@ -5,9 +5,9 @@
 ghost use Rattle.sheet.specs.Readable.{ReadableJob};
 ghost use Rattle.exhaustive.specs.Trial.{PlanFor};
 
-use answer::{number, returned};
+use answer::returned;
 use bits::sizes::{MOST_BYTES, MOST_STEPS, Plan};
-use card::refusal::PLAN_FAULT;
+use card::refusal::Fault;
 use exhaustive::plans::{few_plans, next_plan};
 use exhaustive::try_every;
 use exhaustive::valid::{first_broken, first_denied};
@@ -15,68 +15,45 @@ use instance::figures::rule_figures;
 use listing::input::read_full;
 use listing::{figure, text, write_plan, write_refusal, write_rules};
 use remaining::read_job;
-use sheet::{Reading, SheetJob};
+use sheet::SheetJob;
 use std::io;
 
 // What is wrong with a plan: the tag of the first step that its person is not permitted, or the first rule that it breaks, counted
 // from 1 along the chain.
-fn write_verdict(
-    rt: &impl Print,
-    job: SheetJob,
-    steps: usize,
-    rules: usize,
-    plan: &Plan,
-) -> io::Result<()>
-    requires { PlanFor steps rules job plan.now }
+fn write_verdict(rt: &impl Print, job: &SheetJob, plan: &Plan) -> io::Result<()>
+    requires { PlanFor job.now.steps job.now.rules job.now plan.now }
 {
-    let denied = first_denied(&job.permitted, steps, plan);
-    if denied < steps {
-        let step_tag = job.step_tag;
+    if let Some(s) = first_denied(&job.permitted, job.steps, plan) {
         text(rt, b" DENIED")?;
-        return figure(rt, step_tag[denied] as usize);
+        return figure(rt, job.step_tag[s] as usize);
     }
-    let broken = first_broken(job, rules, plan);
-    if broken < rules {
+    if let Some(i) = first_broken(job, plan) {
         text(rt, b" BREAKS")?;
-        return figure(rt, broken + 1);
+        return figure(rt, i + 1);
     }
     text(rt, b" VALID")
 }
 
 // A line for a plan that was tried: the tags of its people, step by step, and what is wrong with it.
-fn write_trial(
-    rt: &impl Print,
-    job: SheetJob,
-    steps: usize,
-    rules: usize,
-    plan: &Plan,
-) -> io::Result<()>
-    requires { PlanFor steps rules job plan.now }
+fn write_trial(rt: &impl Print, job: &SheetJob, plan: &Plan) -> io::Result<()>
+    requires { PlanFor job.now.steps job.now.rules job.now plan.now }
 {
-    let person_tag = job.person_tag;
     text(rt, b"TRY")?;
-    for s in 0..steps {
-        figure(rt, person_tag[plan[s] as usize] as usize)?;
+    for s in 0..job.steps {
+        figure(rt, job.person_tag[plan[s] as usize] as usize)?;
     }
-    write_verdict(rt, job, steps, rules, plan)?;
+    write_verdict(rt, job, plan)?;
     text(rt, b"\n")
 }
 
 // A line for each plan that was tried, in plan order.
-fn write_trials(
-    rt: &impl Print,
-    job: SheetJob,
-    people: usize,
-    steps: usize,
-    rules: usize,
-    tried: usize,
-) -> io::Result<()>
-    requires { ReadableJob people steps rules job }
+fn write_trials(rt: &impl Print, job: &SheetJob, tried: usize) -> io::Result<()>
+    requires { ReadableJob job.now.people job.now.steps job.now.rules job.now }
 {
     let mut plan = [0u8; MOST_STEPS];
     for _ in 0..tried {
-        write_trial(rt, job, steps, rules, &plan)?;
-        if !next_plan(&mut plan, steps, people) {
+        write_trial(rt, job, &plan)?;
+        if !next_plan(&mut plan, job.steps, job.people) {
             return Ok(());
         }
     }
@@ -86,31 +63,23 @@ fn write_trials(
 // The answer to a sheet: a refusal of the reader; or how many plans were tried, those plans where the sheet has few, and then the
 // first valid plan and the figure of each rule for it, or that there is none.
 fn write_answer(rt: &impl Print, sheet: &[u8]) -> io::Result<()> {
-    let read = read_job(sheet);
-    let reading = read.reading;
-    let Reading::Readable {
-        people,
-        steps,
-        rules,
-    } = reading
-    else {
-        return write_refusal(rt, number(reading));
+    let job = match read_job(sheet) {
+        Ok(job) => job,
+        Err(refusal) => return write_refusal(rt, returned(refusal)),
     };
-    let job = read.job;
-    let trial = try_every(job, people, steps, rules);
+    let trial = try_every(&job);
     text(rt, b"TRIED")?;
     figure(rt, trial.tried as usize)?;
     text(rt, b"\n")?;
-    if few_plans(people, steps) {
-        write_trials(rt, job, people, steps, rules, trial.tried as usize)?;
+    if few_plans(job.people, job.steps) {
+        write_trials(rt, &job, trial.tried as usize)?;
     }
-    if !trial.found {
-        return write_refusal(rt, returned(PLAN_FAULT, 0));
-    }
-    let plan = trial.plan;
-    write_plan(rt, job, steps, &plan)?;
-    let figures = rule_figures(job, rules, &plan);
-    write_rules(rt, job, rules, &figures)
+    let Some(plan) = trial.plan else {
+        return write_refusal(rt, returned(Fault::Plan.on(0)));
+    };
+    write_plan(rt, &job, &plan)?;
+    let figures = rule_figures(&job, &plan);
+    write_rules(rt, &job, &figures)
 }
 
 fn main(rt: HostRuntime) -> io::Result<()> {

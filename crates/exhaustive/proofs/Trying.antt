@@ -7,6 +7,7 @@ use native.Mathlib.Omega.{arith}
 use lib.Dec.{eqb, ltb}
 use lib.ListN.{length, replicate, length-replicate, get_or-replicate}
 use borrow.Author.Tests.{eqb-true, eqb-false, ltb-true, ltb-false, lt-ltb, le-ltb}
+use Rattle.std.specs.Prelude.{Some, None}
 use Rattle.bits.proofs.Below.{by_cases}
 use Rattle.workflow.specs.Problem.{Job, May, Plan, OfPeople, Valid}
 use Rattle.workflow.specs.First.{Found, FirstValid, plan_of, list_of, first_plan}
@@ -60,7 +61,7 @@ trying_first j may some few =
 
 module _ {j : Job} {may : May} {plan : List ℕ} {tried : ℕ} (w : Trying j may plan tried) where
   -- the plan in hand is valid: it is the first
-  pub trying_found : Valid j may (plan_of plan) → TriedEvery j may true plan tried
+  pub trying_found : Valid j may (plan_of plan) → TriedEvery j may (Some plan) tried
   trying_found v =
       let first = first_plan_given j may (plan_of plan)
       (record { valid = v; first = λ σ u e. w.before σ u (number_order j.people j.steps σ (plan_of plan) u.within e) }) in
@@ -89,7 +90,7 @@ module _ {j : Job} {may : May} {plan : List ℕ} {tried : ℕ} (w : Trying j may
         }
 
     -- and there is no next
-    pub trying_none : (plan' : List ℕ) → NextPlan false j.people j.steps (plan_of plan) (plan_of plan') → TriedEvery j may false plan' tried
+    pub trying_none : (plan' : List ℕ) → NextPlan false j.people j.steps (plan_of plan) (plan_of plan') → TriedEvery j may None tried
     trying_none plan' last =
         let n = number_last j.people j.steps (plan_of plan) last.0 in
         let first = no_valid_plan j may (λ σ v. omega (arith, after σ v, number_below j.people j.steps σ v.within, n)) in
@@ -103,16 +104,16 @@ plans_tried_most j may =
     (λ e. rw e (omega arith))
 
 -- what a trial says of its count
-pub tried_found : {j : Job} {may : May} {plan : List ℕ} {tried : ℕ} → TriedEvery j may true plan tried → tried ≡ word_count (suc (number_in j (plan_of plan)))
+pub tried_found : {j : Job} {may : May} {plan : List ℕ} {tried : ℕ} → TriedEvery j may (Some plan) tried → tried ≡ word_count (suc (number_in j (plan_of plan)))
 tried_found {j} {may} {plan} t =
     t.count ∙ ap (λ (r : Found). word_count (plans_tried j r)) t.first
     ∙ ap (λ (n : ℕ). word_count (suc n)) (number_agree j.people j.steps _ (plan_of plan) (plan_of-list_of j.steps (plan_of plan)))
 
-pub tried_none : {j : Job} {may : May} {plan : List ℕ} {tried : ℕ} → TriedEvery j may false plan tried → tried ≡ word_count (j.people ^ j.steps)
+pub tried_none : {j : Job} {may : May} {tried : ℕ} → TriedEvery j may None tried → tried ≡ word_count (j.people ^ j.steps)
 tried_none {j} t = t.count ∙ ap (λ (r : Found). word_count (plans_tried j r)) t.first
 
 -- and of the plan that was found
-pub tried_first : {j : Job} {may : May} {plan : List ℕ} {tried : ℕ} → TriedEvery j may true plan tried → FirstValid j may (plan_of plan)
+pub tried_first : {j : Job} {may : May} {plan : List ℕ} {tried : ℕ} → TriedEvery j may (Some plan) tried → FirstValid j may (plan_of plan)
 tried_first {j} {may} {plan} t =
     let v = (first_plan_found j may (list_of j.steps (plan_of plan)) t.first).1 in
     let same = plan_of-list_of j.steps (plan_of plan) in

@@ -1,10 +1,11 @@
 -- Trying every plan. Assumes nothing.
-use Rattle.std.specs.Prelude.{Bool, cond, not, List, ◌≡◌, ℕ, suc, ◌-◌, ◌^◌, ◌≤◌, ltb}
+use Rattle.std.specs.Prelude.{Option, cond, not, List, ◌≡◌, ℕ, suc, ◌-◌, ◌^◌, ◌≤◌, ltb}
 use Rattle.bits.specs.Below.{first}
 use Rattle.sheet.specs.declared.SheetJob as sheet
 use Rattle.workflow.specs.Problem.{Job, May, Plan, met}
-use Rattle.workflow.specs.First.{Found, found, nothing, found_as, first_plan, plan_of}
+use Rattle.workflow.specs.First.{Found, found, nothing, first_plan, plan_of, found_in}
 use Rattle.instance.specs.Figures.{Staffed, RulesStaffed}
+
 use Rattle.exhaustive.specs.Order.{plan_number}
 
 -- a plan that can be looked at: for each step, and for each that a rule can name, it has a place in the table of people
@@ -31,6 +32,6 @@ plans_tried j (found plan) = suc (plan_number j.people j.steps (plan_of plan))
 plans_tried j nothing = j.people ^ j.steps
 
 -- "It goes through all plans in plan order and takes the first valid one."
-pub record TriedEvery (j : Job) (may : May) (won : Bool) (plan : List ℕ) (tried : ℕ) : Type 0 where
-  pub first : first_plan j may ≡ found_as j.steps won plan
+pub record TriedEvery (j : Job) (may : May) (plan : Option (List ℕ)) (tried : ℕ) : Type 0 where
+  pub first : first_plan j may ≡ found_in j.steps plan
   pub count : tried ≡ word_count (plans_tried j (first_plan j may))

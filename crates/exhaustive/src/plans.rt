@@ -14,9 +14,7 @@ pub fn next_plan(plan: &mut Plan, steps: usize, people: usize) -> bool
     requires { (length plan.old ≡ 12) × (steps ≤ 12) × (people ≤ 64) × Gives people steps (plan_of plan.old) }
     ensures { (length plan.new ≡ 12) × NextPlan result people steps (plan_of plan.old) (plan_of plan.new) }
 {
-    let mut s = steps;
-    while s != 0 {
-        s -= 1;
+    for s in (0..steps).rev() {
         if (plan[s] as usize) + 1 < people {
             plan[s] += 1;
             return true;

@@ -20,7 +20,7 @@ use Rattle.bits.proofs.Masks.{taken_was}
 use Rattle.bits.proofs.SetLaws.{zero_empty, mod-bit, removed_other}
 use Rattle.workflow.specs.Problem.{Job, May, Plan, Valid}
 use Rattle.std.specs.Prelude.{None, Some}
-use Rattle.workflow.specs.First.{nothing, first_plan, found_as, found_in}
+use Rattle.workflow.specs.First.{nothing, first_plan, found_in}
 use Rattle.workflow.proofs.First.{no_valid_plan}
 use Rattle.pattern.specs.Tables.{may_in, plan_in}
 use Rattle.backtrack.proofs.Extending.{own_bit}

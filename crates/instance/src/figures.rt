@@ -5,6 +5,7 @@ ghost use Rattle.instance.specs.Figures.{FiguresOf, kind_at, RulesStaffed, ForIn
 use super::figure::rule_figure;
 use bits::sizes::{MOST_RULES, Plan, RuleBytes};
 use sheet::SheetJob;
+use workflow::kind::RuleKind;
 
 // The figure of each rule, in chain order, for a plan of a job.
 pub fn rule_figures(job: &SheetJob, plan: &Plan) -> RuleBytes
@@ -13,7 +14,10 @@ pub fn rule_figures(job: &SheetJob, plan: &Plan) -> RuleBytes
 {
     let mut figures = [0u8; MOST_RULES];
     for i in 0..job.rules {
-        figures[i] = rule_figure(job, i, plan) as u8;
+        let kind = RuleKind::from(job.rule_kind[i]);
+        let scope = job.rule_scope[i];
+        let figure = rule_figure(&job.class, job.levels, kind, job.rule_level[i], scope, plan);
+        figures[i] = figure as u8;
     }
     figures
 }

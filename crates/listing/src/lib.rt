@@ -38,16 +38,14 @@ fn write_step(rt: &impl Print, step_tag: u32, person_tag: u32) -> io::Result<()>
 }
 
 // The number of steps, and a line for each.
-pub fn write_plan(rt: &impl Print, job: SheetJob, steps: usize, plan: &Plan) -> io::Result<()>
-    requires { (steps ≤ 12) × (length plan.now ≡ 12) × Staffed steps plan.now }
+pub fn write_plan(rt: &impl Print, job: &SheetJob, plan: &Plan) -> io::Result<()>
+    requires { (job.now.steps ≤ 12) × (length plan.now ≡ 12) × Staffed job.now.steps plan.now }
 {
-    let step_tag = job.step_tag;
-    let person_tag = job.person_tag;
     text(rt, b"PLAN")?;
-    figure(rt, steps)?;
+    figure(rt, job.steps)?;
     text(rt, b"\n")?;
-    for s in 0..steps {
-        write_step(rt, step_tag[s], person_tag[plan[s] as usize])?;
+    for s in 0..job.steps {
+        write_step(rt, job.step_tag[s], job.person_tag[plan[s] as usize])?;
     }
     Ok(())
 }
@@ -63,19 +61,17 @@ fn write_rule(rt: &impl Print, kind: u8, level: u8, limit: u8, last: u8) -> io::
 }
 
 // A line for each rule: kind, level and limit as its card has them, and its figure for the plan.
-pub fn write_rules(
-    rt: &impl Print,
-    job: SheetJob,
-    rules: usize,
-    figures: &RuleBytes,
-) -> io::Result<()>
-    requires { (rules ≤ 64) × (length figures.now ≡ 64) }
+pub fn write_rules(rt: &impl Print, job: &SheetJob, figures: &RuleBytes) -> io::Result<()>
+    requires { (job.now.rules ≤ 64) × (length figures.now ≡ 64) }
 {
-    let kind = job.rule_kind;
-    let level = job.rule_level;
-    let limit = job.rule_limit;
-    for i in 0..rules {
-        write_rule(rt, kind[i], level[i], limit[i], figures[i])?;
+    for i in 0..job.rules {
+        write_rule(
+            rt,
+            job.rule_kind[i],
+            job.rule_level[i],
+            job.rule_limit[i],
+            figures[i],
+        )?;
     }
     Ok(())
 }

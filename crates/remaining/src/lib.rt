@@ -57,10 +57,9 @@ fn gathered(set: u16, kept: &[u8]) -> u16
     if set == 0 {
         return 0;
     }
-    let count = kept.len();
     let mut left: u16 = 0;
-    for k in 0..count {
-        left = left * 2 + (set >> kept[count - 1 - k] as usize) % 2;
+    for &s in kept.iter().rev() {
+        left = left * 2 + (set >> s as usize) % 2;
     }
     left
 }

@@ -1,14 +1,17 @@
 -- Where no tag fell into a slot, none stood before; where the first person of a slot has the same class and the same above, no earlier one has
 -- the class with another above; and the first clash of two kinds. Assumes nothing.
-use mathlib.Core.Bool.{Bool, true, false, ◌&&◌}
-use mathlib.Core.List.{List}
-use mathlib.Core.Path.{◌≡◌, sym, ◌∙◌, ap}
-use Prim.Native.Nat.{ℕ, ◌+◌, ◌%◌, ◌<◌, ◌≤◌}
+use mathlib.Core.Bool.{Bool, true, false, ◌&&◌, ◌||◌, or-false}
+use mathlib.Core.List.{List, [], ◌∷◌, ◌++◌}
+use mathlib.Core.Path.{◌≡◌, refl, sym, ◌∙◌, ap}
+use Prim.Native.Nat.{ℕ, zero, suc, ◌+◌, ◌%◌, ◌<◌, ◌≤◌}
 use native.Mathlib.Omega.{arith}
 use native.Mathlib.Nat.{not-suc-le-zero}
 use lib.Dec.{eqb, ltb}
-use lib.ListN.{get_or, set, replicate, length-set, length-replicate}
-use lib.Seq.{get_or-set_same, get_or-set_other}
+use lib.ListN.{length, get_or, take, set, replicate, length-set, length-replicate}
+use native.Mathlib.Numerals.{add-one}
+use Rattle.std.specs.List.{list_any}
+use Rattle.bits.proofs.Scan.{any-zero, any_more}
+use lib.Seq.{take-suc, get_or-set_same, get_or-set_other}
 use borrow.Author.Count.{below_more}
 use borrow.Author.Tests.{eqb-true, eqb-false, eq-eqb, ltb-true, ltb-false, not-true, not-false}
 use Rattle.bits.specs.Below.{any}
@@ -74,3 +77,21 @@ module _ (below above : List ℕ) (k : ℕ) (u : Unmoved below above k) where
           let f : j ≡ i → ⊥ = eqb-false j i q in
           let g : i ≤ j = ltb-false j i t in
           sym (pair i j (omega arith) l (eqb-true _ _ (and_left (equal_at below i k) _ h) ∙ sym e))))
+
+-- the first entries of a list have a number where one of their places has it
+list_any-snoc : (p : ℕ → Bool) (xs : List ℕ) (y : ℕ) → list_any p (xs ++ y ∷ []) ≡ (list_any p xs || p y)
+list_any-snoc p [] y = or-false (p y)
+list_any-snoc p (x ∷ xs) y = ap (λ (b : Bool). p x || b) (list_any-snoc p xs y) ∙ turned (p x) (list_any p xs) (p y)
+  where
+    turned : (a b c : Bool) → (a || (b || c)) ≡ ((a || b) || c)
+    turned true b c = refl
+    turned false b c = refl
+
+pub contains-any : (l : List ℕ) (x k : ℕ) → k ≤ length l → list_any (λ y. eqb y x) (take k l) ≡ any k (λ j. eqb (get_or l j 0) x)
+contains-any l x zero h = any-zero (λ j. eqb (get_or l j 0) x)
+contains-any l x (suc k) h =
+    ap (list_any (λ y. eqb y x)) (take-suc l k 0 (omega arith))
+    ∙ list_any-snoc (λ y. eqb y x) (take k l) (get_or l k 0)
+    ∙ ap (λ (b : Bool). b || eqb (get_or l k 0) x) (contains-any l x k (omega arith))
+    ∙ any_more (λ j. eqb (get_or l j 0) x) k _ _ refl refl
+    ∙ ap (λ (n : ℕ). any n (λ j. eqb (get_or l j 0) x)) (add-one k)

@@ -17,13 +17,7 @@ fn tag_stood(tags: &[u32], k: usize) -> bool
     requires { k < length tags.now }
     ensures { result ≡ any k (λ j. equal_at tags.now j k) }
 {
-    let tag = tags[k];
-    for j in 0..k {
-        if tags[j] == tag {
-            return true;
-        }
-    }
-    false
+    tags[..k].contains(&tags[k])
 }
 
 // The same where the slots of the tags before `k` are marked; marks the slot of `k` too.

@@ -24,10 +24,8 @@ fn fill_job(s: &[u8], people: &[u8], steps: &[u8], rules: &[u8]) -> SheetJob
 {
     let above = class_levels(s);
     let levels = above + 1;
-    let mut person_tag = [0u32; MOST_PEOPLE];
-    tags(s, people, &mut person_tag);
-    let mut step_tag = [0u32; MOST_STEPS];
-    tags(s, steps, &mut step_tag);
+    let person_tag = tags::<MOST_PEOPLE>(s, people);
+    let step_tag = tags::<MOST_STEPS>(s, steps);
     let class = classes(s, people, above);
     let permitted = words(s, people, place::PERMITTED);
     let rule_scope = words(s, rules, place::SCOPE);

@@ -1,5 +1,6 @@
-// The job's arrays, filled from the cards of a chain.
-ghost use Rattle.std.specs.Prelude.{◌≡◌, ◌+◌, ◌<◌, ◌≤◌, length, replicate};
+// The job's arrays, filled from the cards of a chain. Bytes, words and tags stay apart: of one function over what reads the field each would have
+// to say card by card what one equation says.
+ghost use Rattle.std.specs.Prelude.{◌≡◌, ◌+◌, ◌<◌, ◌≤◌, length};
 ghost use Rattle.card.specs.Layout.{card_byte, card_word, card_long};
 ghost use Rattle.bits.specs.Sizes.{most_class_levels};
 ghost use Rattle.card.specs.Fields.{class_levels};
@@ -50,12 +51,14 @@ pub fn classes(s: &[u8], list: &[u8], levels: usize) -> ClassWords
     out
 }
 
-// The tags of the cards of a list, into an array of zeros.
-pub fn tags(s: &[u8], list: &[u8], out: &mut [u32])
-    requires { Listing s.now list.now × (length list.now ≤ length out.old) × (out.old ≡ replicate (length out.old) 0) }
-    ensures { out.new ≡ table (length out.old) (λ c. card_long s.now c 4) list.now }
+// The tags of the cards of a list.
+pub fn tags<const N: usize>(s: &[u8], list: &[u8]) -> [u32; N]
+    requires { Listing s.now list.now × (length list.now ≤ N) }
+    ensures { result ≡ table N (λ c. card_long s.now c 4) list.now }
 {
+    let mut out = [0u32; N];
     for (k, &card) in list.iter().enumerate() {
         out[k] = long(s, card as usize, TAG) as u32;
     }
+    out
 }

@@ -4,9 +4,11 @@
 
 ghost use Rattle.std.specs.Prelude.{◌<◌, ◌≤◌, length};
 
+use card::refusal::Refusal;
 use listing::input::read_full;
 use listing::{figure, text};
-use sheet::Reading;
+use remaining::read_job;
+use sheet::SheetJob;
 use std::io;
 use std::io::Read;
 
@@ -21,37 +23,27 @@ fn filled<R: Read>(from: &mut R, out: &mut [u8], n: usize) -> io::Result<bool>
     Ok(read == n)
 }
 
-fn write_counts(rt: &impl Print, people: usize, steps: usize, rules: usize) -> io::Result<()> {
+fn write_counts(rt: &impl Print, job: &SheetJob) -> io::Result<()> {
     text(rt, b": READ")?;
-    figure(rt, people)?;
-    figure(rt, steps)?;
-    figure(rt, rules)
+    figure(rt, job.people)?;
+    figure(rt, job.steps)?;
+    figure(rt, job.rules)
 }
 
-fn write_refusal(rt: &impl Print, refusal: u32, card: usize) -> io::Result<()> {
+fn write_refusal(rt: &impl Print, refusal: Refusal) -> io::Result<()> {
     text(rt, b": REFUSED")?;
-    figure(rt, refusal as usize)?;
+    figure(rt, u32::from(refusal.fault) as usize)?;
     text(rt, b" CARD")?;
-    figure(rt, card)
-}
-
-fn write_reading(rt: &impl Print, reading: Reading) -> io::Result<()> {
-    match reading {
-        Reading::Readable {
-            people,
-            steps,
-            rules,
-        } => write_counts(rt, people, steps, rules),
-        Reading::Refused { refusal, card } => write_refusal(rt, refusal, card),
-    }
+    figure(rt, refusal.card as usize)
 }
 
 // Writes the answer to a sheet.
 fn write_answer(rt: &impl Print, name: &[u8], bytes: &[u8]) -> io::Result<()> {
-    let answer = remaining::read_job(bytes);
-    let reading = answer.reading;
     text(rt, name)?;
-    write_reading(rt, reading)?;
+    match read_job(bytes) {
+        Ok(job) => write_counts(rt, &job)?,
+        Err(refusal) => write_refusal(rt, refusal)?,
+    }
     text(rt, b"\n")
 }
 
@@ -93,9 +85,10 @@ fn next_record<R: Read>(rt: &impl Print, from: &mut R) -> io::Result<bool> {
 
 fn main(rt: HostRuntime) -> io::Result<()> {
     let mut from = rt.reader();
-    let mut left = MOST_RECORDS;
-    while left > 0 && next_record(&rt, &mut from)? {
-        left -= 1;
+    for _ in 0..MOST_RECORDS {
+        if !next_record(&rt, &mut from)? {
+            break;
+        }
     }
     Ok(())
 }

@@ -1,5 +1,5 @@
 -- The first valid plan, found by trying every plan in plan order. Assumes nothing.
-use Rattle.std.specs.Prelude.{Option, Some, None, Bool, true, false, cond, List, [], ◌∷◌, ◌++◌, ◌≡◌, ℕ, zero, suc, ◌<◌, length, get_or}
+use Rattle.std.specs.Prelude.{Option, Some, None, Bool, cond, List, [], ◌∷◌, ◌++◌, ◌≡◌, ℕ, zero, suc, ◌<◌, length, get_or}
 use Rattle.workflow.specs.Problem.{Job, May, Plan, Valid, valid}
 
 -- the people of steps 0, 1, .. of a plan; or that there is none
@@ -19,11 +19,6 @@ plan_of xs s = get_or xs s 0
 unfoldable pub list_of : ℕ → Plan → List ℕ
 list_of zero π = []
 list_of (suc n) π = list_of n π ++ (π n ∷ [])
-
--- an answer: whether a plan was found, and an array that has it; the people of the first `steps` steps, or nothing
-abbrev pub found_as : ℕ → Bool → List ℕ → Found
-found_as steps true plan = found (list_of steps (plan_of plan))
-found_as steps false plan = nothing
 
 -- an answer as an option: the people of the first `steps` steps of a plan, or nothing
 abbrev pub found_in : ℕ → Option (List ℕ) → Found

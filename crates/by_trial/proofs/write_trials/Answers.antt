@@ -10,8 +10,8 @@ use Rattle.by_trial.proofs.write_trials.Goals as goal
 
 pub loop-init : goal.loop-init
 loop-init g c =
-    let a = c.args in
-    let w = trying_first (instance_of a.people a.steps a.rules a.job) (may_of a.job) c.requires.people_some c.requires.steps_most in
+    let j = c.args.job.now in
+    let w = trying_first (instance_of j.people j.steps j.rules j) (may_of j) c.requires.people_some c.requires.steps_most in
     (c.requires, w.sized, w.within)
 
 pub write_trial-requires : goal.write_trial-requires
@@ -28,6 +28,6 @@ next_plan-requires g c =
 
 pub loop-preserved : goal.loop-preserved
 loop-preserved g c =
-    let a = c.args in
-    let next = subst (λ (x : Bool). NextPlan x a.people a.steps (plan_of c.loop.plan) (plan_of c.next_plan.new.plan)) c.if-not-next_plan.false c.next_plan.ensures.1 in
+    let j = c.args.job.now in
+    let next = subst (λ (x : Bool). NextPlan x j.people j.steps (plan_of c.loop.plan) (plan_of c.next_plan.new.plan)) c.if-not-next_plan.false c.next_plan.ensures.1 in
     (c.loop.invariant.0, c.next_plan.ensures.0, next.0)

@@ -8,4 +8,4 @@ use Rattle.instance.specs.Instance.{instance_of}
 use Rattle.by_trial.proofs.write_trials.Given as goal
 
 abbrev pub invariant-loop : goal.invariant-loop
-invariant-loop g l = ReadableJob l.people l.steps l.rules l.job × (length l.plan ≡ 12) × OfPeople (instance_of l.people l.steps l.rules l.job) (plan_of l.plan)
+invariant-loop g l = ReadableJob l.job.people l.job.steps l.job.rules l.job × (length l.plan ≡ 12) × OfPeople (instance_of l.job.people l.job.steps l.job.rules l.job) (plan_of l.plan)

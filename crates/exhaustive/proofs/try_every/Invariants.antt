@@ -5,9 +5,9 @@ use Rattle.exhaustive.specs.Order.{plan_number}
 use Rattle.exhaustive.proofs.Trying.{Trying}
 use Rattle.exhaustive.proofs.try_every.Given as goal
 
-abbrev pub invariant-loop-job : goal.invariant-loop-job
-invariant-loop-job l = Trying (instance_of l.people l.steps l.rules l.job) (may_of l.job) l.plan l.tried
+abbrev pub invariant-loop-plan : goal.invariant-loop-plan
+invariant-loop-plan l = Trying (instance_of l.job.people l.job.steps l.job.rules l.job) (may_of l.job) l.plan l.tried
 
 -- the plans from the one in hand on
-abbrev pub decreases-loop-job : goal.decreases-loop-job
-decreases-loop-job l = l.people ^ l.steps - plan_number l.people l.steps (plan_of l.plan)
+abbrev pub decreases-loop-plan : goal.decreases-loop-plan
+decreases-loop-plan l = l.job.people ^ l.job.steps - plan_number l.job.people l.job.steps (plan_of l.plan)

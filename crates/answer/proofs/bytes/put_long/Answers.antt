@@ -1,17 +1,19 @@
--- Four stores put four bytes. Assumes nothing.
+-- The bytes of the number take the place of those that were there. Assumes nothing.
+use mathlib.Core.List.{List, ◌++◌, append_assoc}
+use mathlib.Core.Path.{sym, ◌∙◌, ap₂}
+use Prim.Native.Nat.{ℕ, ◌+◌}
 use native.Mathlib.Omega.{arith}
-use lib.ListN.{length-set}
-use Rattle.answer.proofs.Put.{put_four}
+use lib.ListN.{take, drop}
+use borrow.Rule.Slice.PartMut.{Post-is}
+use Rattle.answer.specs.Bytes.{long_bytes, put_at}
 use Rattle.answer.proofs.bytes.put_long.Goals as goal
 
-pub bounds-out-at-2 : goal.bounds-out-at-2
-bounds-out-at-2 c = simp length-set (omega arith)
-
-pub bounds-out-at-3 : goal.bounds-out-at-3
-bounds-out-at-3 c = simp length-set (omega arith)
-
-pub bounds-out-at-4 : goal.bounds-out-at-4
-bounds-out-at-4 c = simp length-set (omega arith)
-
 pub returns : goal.returns
-returns c = put_four _ _ _ _ _ _ c.requires
+unfolding put_at
+returns c =
+    let out = c.args.out.now in
+    let at = c.args.at in
+    ap₂ (λ (new rest : List ℕ). take at out ++ (new ++ rest))
+    (c.copy_from_slice.ensures.after ∙ c.to_le_bytes.ensures)
+    (Post-is at (at + 4) out (omega arith))
+    ∙ sym (append_assoc (take at out) (long_bytes c.args.x) (drop (at + 4) out))

@@ -3,6 +3,3 @@ use Rattle.exhaustive.proofs.plans.next_plan.Given as goal
 
 abbrev pub invariant-loop-s : goal.invariant-loop-s
 invariant-loop-s l = Carrying l.people l.steps l.initial.plan l.plan l.s
-
-abbrev pub decreases-loop-s : goal.decreases-loop-s
-decreases-loop-s l = l.s

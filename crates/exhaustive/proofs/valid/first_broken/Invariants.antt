@@ -1,5 +1,4 @@
 use mathlib.Core.Bool.{not}
-use Prim.Native.Nat.{◌-◌}
 use Rattle.bits.proofs.Scan.{Passed}
 use Rattle.workflow.specs.Problem.{met}
 use Rattle.workflow.specs.First.{plan_of}
@@ -7,7 +6,4 @@ use Rattle.instance.specs.Figures.{ForInstances}
 use Rattle.exhaustive.proofs.valid.first_broken.Given as goal
 
 abbrev pub invariant-loop-i : goal.invariant-loop-i
-invariant-loop-i l = ForInstances l.rules l.job (λ j. Passed l.rules (λ k. not (met j (j.rule k) (plan_of l.plan))) l.i)
-
-abbrev pub decreases-loop-i : goal.decreases-loop-i
-decreases-loop-i l = l.rules - l.i
+invariant-loop-i l = ForInstances l.job.rules l.job (λ j. Passed l.job.rules (λ k. not (met j (j.rule k) (plan_of l.plan))) l.i)

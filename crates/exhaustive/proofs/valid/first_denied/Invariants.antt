@@ -1,5 +1,4 @@
 use mathlib.Core.Bool.{not}
-use Prim.Native.Nat.{◌-◌}
 use lib.ListN.{get_or}
 use Rattle.bits.specs.Word.{has_bit}
 use Rattle.bits.proofs.Scan.{Passed}
@@ -8,6 +7,3 @@ use Rattle.exhaustive.proofs.valid.first_denied.Given as goal
 
 abbrev pub invariant-loop-s : goal.invariant-loop-s
 invariant-loop-s l = Passed l.steps (λ t. not (has_bit (get_or l.permitted (plan_of l.plan t) 0) t)) l.s
-
-abbrev pub decreases-loop-s : goal.decreases-loop-s
-decreases-loop-s l = l.steps - l.s

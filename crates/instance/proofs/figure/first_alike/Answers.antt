@@ -5,24 +5,11 @@ use borrow.Author.Tests.{eq-eqb, ne_eqb}
 use Rattle.bits.proofs.Scan.{passed_none, passed_more, passed_found, passed_all}
 use Rattle.instance.proofs.figure.first_alike.Goals as goal
 
-pub bounds-plan-s : goal.bounds-plan-s
-bounds-plan-s c = c.requires.1
-
-pub overflow_cast-plan : goal.overflow_cast-plan
-overflow_cast-plan c = omega (arith, c.requires.2 c.args.s (omega arith))
-
 pub class_of-own-requires : goal.class_of-own-requires
 class_of-own-requires c = (c.requires.0.classes, c.requires.0.few, c.requires.2 c.args.s (omega arith))
 
 pub loop-t-init : goal.loop-t-init
 loop-t-init c = passed_none _ _
-
-pub bounds-plan-t : goal.bounds-plan-t
-bounds-plan-t c = omega (arith, c.loop-t-test.true, c.requires.1)
-
-pub overflow_cast-plan-in-loop-t : goal.overflow_cast-plan-in-loop-t
-overflow_cast-plan-in-loop-t c =
-    omega (arith, c.requires.2 c.loop-t.t (omega (arith, c.loop-t-test.true)))
 
 pub class_of-requires : goal.class_of-requires
 class_of-requires c =
@@ -32,12 +19,6 @@ pub returns-then-class_of-own : goal.returns-then-class_of-own
 returns-then-class_of-own c =
     passed_found _ _ _ c.loop-t.invariant c.loop-t-test.true
     (eq-eqb _ _ (sym c.class_of.ensures ∙ c.if-class_of-own.true ∙ c.class_of-own.ensures))
-
-pub overflow_step-t : goal.overflow_step-t
-overflow_step-t c = omega (arith, c.requires.1, c.loop-t-test.true)
-
-pub loop-t-smaller : goal.loop-t-smaller
-loop-t-smaller c = omega (arith, c.loop-t-test.true)
 
 pub loop-t-preserved : goal.loop-t-preserved
 loop-t-preserved c =

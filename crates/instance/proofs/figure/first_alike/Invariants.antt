@@ -1,4 +1,3 @@
-use Prim.Native.Nat.{◌-◌}
 use lib.Dec.{eqb}
 use Rattle.bits.proofs.Scan.{Passed}
 use Rattle.workflow.specs.First.{plan_of}
@@ -7,7 +6,4 @@ use Rattle.instance.proofs.figure.first_alike.Given as goal
 
 abbrev pub invariant-loop-t : goal.invariant-loop-t
 invariant-loop-t l =
-    Passed l.s (λ u. eqb (class_at l.job.levels l.job.class l.level (plan_of l.plan u)) (class_at l.job.levels l.job.class l.level (plan_of l.plan l.s))) l.t
-
-abbrev pub decreases-loop-t : goal.decreases-loop-t
-decreases-loop-t l = l.s - l.t
+    Passed l.s (λ u. eqb (class_at l.levels l.class l.level (plan_of l.plan u)) (class_at l.levels l.class l.level (plan_of l.plan l.s))) l.t

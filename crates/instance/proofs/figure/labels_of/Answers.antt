@@ -1,30 +1,25 @@
 -- `instance::figure::labels_of` meets its contract: the labels are those of the classes of the steps passed. Assumes nothing.
 use mathlib.Core.Path.{refl, ◌∙◌}
 use native.Mathlib.Omega.{arith}
-use Prim.Native.Nat.{ℕ}
 use lib.ListN.{length-set}
-use Rattle.workflow.specs.First.{plan_of}
 use Rattle.workflow.proofs.Labels.{part_rest, turn_below}
 use Rattle.workflow.proofs.Tally.{entered_none, entered_more, entered_all, entered_at}
-use Rattle.instance.specs.Instance.{class_at}
 use Rattle.instance.proofs.Classes.{alike_le}
 use Rattle.instance.proofs.figure.labels_of.Goals as goal
 
 pub loop-s-init : goal.loop-s-init
-loop-s-init c =
-    rw c.into_iter-s-iterator.ensures.into_iter_gives (rw c.members-s-items.ensures (λ s h. h, refl, entered_none))
+loop-s-init c = rw c.into_iter-s-iterator.ensures.into_iter_gives (rw c.members-s-items.ensures (λ s h. h, refl, entered_none))
 
 pub first_alike-requires : goal.first_alike-requires
-first_alike-requires c =
-    let i = c.loop-s.invariant.0 in
-    let f = c.in-Some.ensures.steps.1 in
-    (c.requires.0, turn_below c.args.scope i f 12 c.requires.1, c.requires.2 c.in-Some.s (i _ f.lowest.has))
+first_alike-requires c = (
+  c.requires.0,
+  turn_below c.args.scope c.loop-s.invariant.0 c.in-Some.ensures.steps.1 12 c.requires.1,
+  c.requires.2 c.in-Some.s (c.loop-s.invariant.0 _ c.in-Some.ensures.steps.1.lowest.has),
+)
 
 pub overflow_cast-labels : goal.overflow_cast-labels
 overflow_cast-labels c =
-    let a = c.args in
-    omega
-    (arith, alike_le (λ t. class_at a.job.now.levels a.job.now.class a.level (plan_of a.plan.now t)) _ _ c.first_alike.ensures, turn_below a.scope c.loop-s.invariant.0 c.in-Some.ensures.steps.1 12 c.requires.1)
+    omega (arith, alike_le _ _ _ c.first_alike.ensures, turn_below c.args.scope c.loop-s.invariant.0 c.in-Some.ensures.steps.1 12 c.requires.1)
 
 pub bounds-labels-s : goal.bounds-labels-s
 bounds-labels-s c = turn_below c.args.scope c.loop-s.invariant.0 c.in-Some.ensures.steps.1 12 c.requires.1

@@ -9,4 +9,4 @@ use Rattle.instance.proofs.figure.labels_of.Given as goal
 
 abbrev pub invariant-loop-s : goal.invariant-loop-s
 invariant-loop-s l =
-    Part l.scope l.s-iterator.left × (length l.labels ≡ 12) × Entered l.scope (first_alike (λ s. class_at l.job.levels l.job.class l.level (plan_of l.plan s))) l.s-iterator.left l.labels
+    Part l.scope l.s-iterator.left × (length l.labels ≡ 12) × Entered l.scope (first_alike (λ s. class_at l.levels l.class l.level (plan_of l.plan s))) l.s-iterator.left l.labels

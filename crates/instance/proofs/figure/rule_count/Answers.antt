@@ -1,10 +1,7 @@
 -- `instance::figure::rule_count` meets its contract: the labels are those of the classes of the steps passed. Assumes nothing.
 use mathlib.Core.Path.{◌∙◌}
 use native.Mathlib.Omega.{arith}
-use Prim.Native.Nat.{ℕ}
-use Rattle.workflow.specs.First.{plan_of}
 use Rattle.workflow.proofs.Labels.{turn_below, gathered_none, gathered_more, gathered_all}
-use Rattle.instance.specs.Instance.{class_at}
 use Rattle.instance.proofs.Classes.{alike_le, alike_distinct}
 use Rattle.instance.proofs.figure.rule_count.Goals as goal
 
@@ -12,19 +9,19 @@ pub loop-s-init : goal.loop-s-init
 loop-s-init c = rw c.into_iter-s-iterator.ensures.into_iter_gives (rw c.members-s-items.ensures gathered_none)
 
 pub first_alike-requires : goal.first_alike-requires
-first_alike-requires c =
-    let i = c.loop-s.invariant.part in
-    let f = c.in-Some.ensures.steps.1 in
-    (c.requires.0, turn_below c.args.scope i f 12 c.requires.1, c.requires.2 c.in-Some.s (i _ f.lowest.has))
+first_alike-requires c = (
+  c.requires.0,
+  turn_below c.args.scope c.loop-s.invariant.part c.in-Some.ensures.steps.1 12 c.requires.1,
+  c.requires.2 c.in-Some.s (c.loop-s.invariant.part _ c.in-Some.ensures.steps.1.lowest.has),
+)
 
 pub with-labels-requires : goal.with-labels-requires
 with-labels-requires c =
-    let a = c.args in
-    omega
-    (arith, alike_le (λ t. class_at a.job.now.levels a.job.now.class a.level (plan_of a.plan.now t)) _ _ c.first_alike.ensures, turn_below a.scope c.loop-s.invariant.part c.in-Some.ensures.steps.1 12 c.requires.1)
+    omega (arith, alike_le _ _ _ c.first_alike.ensures, turn_below c.args.scope c.loop-s.invariant.part c.in-Some.ensures.steps.1 12 c.requires.1)
 
 pub loop-s-preserved : goal.loop-s-preserved
-loop-s-preserved c = gathered_more c.loop-s.invariant c.in-Some.ensures.steps.1 c.first_alike.ensures c.with-labels.ensures
+loop-s-preserved c =
+    gathered_more c.loop-s.invariant c.in-Some.ensures.steps.1 c.first_alike.ensures c.with-labels.ensures
 
 pub returns : goal.returns
 returns c = (

@@ -16,7 +16,7 @@ largest_load-requires c = (c.requires.1, c.labels_of-labels.ensures.0)
 pub returns : goal.returns
 returns c =
     let a = c.args in
-    let classes : ℕ → ℕ = λ t. class_at a.job.now.levels a.job.now.class a.level (plan_of a.plan.now t) in
+    let classes : ℕ → ℕ = λ t. class_at a.levels a.class.now a.level (plan_of a.plan.now t) in
     λ n b.
     c.largest_load.ensures n b
     ∙ tallied_labels a.scope (first_alike classes) c.labels_of-labels.result c.labels_of-labels.ensures.1
