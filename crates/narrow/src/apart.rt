@@ -47,8 +47,5 @@ pub fn apart(crowd: &Crowds, level: usize, steps: u16, used: u64, dom: &Domains)
         all = all | reached;
         heads = heads.with(s);
     }
-    Parts {
-        used: all,
-        heads: heads,
-    }
+    Parts { used: all, heads }
 }

@@ -55,8 +55,8 @@ pub fn fixed(crowd: &Crowds, level: usize, scope: u16, dom: &Domains) -> Forced
         labels = labels.with(mask.lowest());
     }
     Forced {
-        used: used,
+        used,
         count: class_count(labels),
-        wide: wide,
+        wide,
     }
 }

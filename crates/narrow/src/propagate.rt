@@ -23,7 +23,7 @@ pub fn propagate(tables: &Tables, pending: u64, dom: &mut Domains, effort: &mut 
         if *effort == 0 {
             return true;
         }
-        *effort = *effort - 1;
+        *effort -= 1;
         if i >= tables.size.rules {
             continue;
         }

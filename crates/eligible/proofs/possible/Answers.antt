@@ -1,9 +1,9 @@
 -- `eligible::possible` meets its contract, by the count and by the largest load. Assumes nothing.
 use Prim.Native.Nat.{ℕ, ◌^◌, ◌<◌}
-use borrow.Author.Tests.{not-true, not-false}
+use borrow.Author.Tests.{not-false}
 use Rattle.bits.specs.Says.{Says}
 use Rattle.bits.specs.Word.{has_bit}
-use Rattle.bits.proofs.Says.{says_true, says_false}
+use Rattle.bits.proofs.Says.{says_true}
 use Rattle.pattern.specs.Eligible.{group_count, open_count, CanBeMet}
 use Rattle.pattern.specs.Rule.{scope_in, unpacked}
 use Rattle.pattern.specs.Tables.{label_in}
@@ -21,10 +21,6 @@ counted c steps k =
     let a = c.args in
     counted_says a.rule a.placed c.scope-scope.ensures steps k a.label.now (c.group_count-groups.ensures.0 steps k) c.open_count.ensures.1
     c.can_be_met.result c.can_be_met.ensures
-
-pub returns-then-not-can_be_met : goal.returns-then-not-can_be_met
-returns-then-not-can_be_met c =
-    λ steps k p. says_false c.can_be_met.result _ (counted c.before steps k) (not-true _ (ap not c.if-not-can_be_met.true)) p.counted
 
 pub returns : goal.returns
 returns c =

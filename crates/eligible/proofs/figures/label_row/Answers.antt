@@ -1,22 +1,10 @@
 -- `eligible::figures::label_row` meets its contract: the row has the labels of the steps passed. Assumes nothing.
-use mathlib.Core.Path.{refl, ◌∙◌}
+use mathlib.Core.Path.{◌∙◌}
 use native.Mathlib.Omega.{arith}
 use lib.ListN.{length-set}
 use Rattle.workflow.proofs.Labels.{part_rest, turn_below}
-use Rattle.workflow.proofs.Tally.{entered_none, entered_more, entered_all, entered_at}
+use Rattle.workflow.proofs.Tally.{entered_more, entered_all, entered_at}
 use Rattle.eligible.proofs.figures.label_row.Goals as goal
-
-pub loop-s-init : goal.loop-s-init
-loop-s-init g c =
-    rw c.into_iter-s-iterator.ensures.into_iter_gives (rw c.members-s-items.ensures (λ s h. h, refl, λ k by. entered_none))
-
-pub label-requires : goal.label-requires
-label-requires g c = c.requires.1.may _ (c.loop-s.invariant.0 _ c.in-Some.ensures.steps.1.lowest.has)
-
-pub overflow_cast-row : goal.overflow_cast-row
-overflow_cast-row g c =
-    let small = c.requires.1.small _ _ (c.loop-s.invariant.0 _ c.in-Some.ensures.steps.1.lowest.has) c.label.ensures in
-    omega arith
 
 pub bounds-row-s : goal.bounds-row-s
 bounds-row-s g c = omega (arith, turn_below c.args.steps c.loop-s.invariant.0 c.in-Some.ensures.steps.1 12 c.requires.0, c.loop-s.invariant.1)

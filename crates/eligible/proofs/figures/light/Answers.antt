@@ -13,12 +13,6 @@ returns-then-not-limits_load g c =
     let few = ltb-false _ _ (sym c.limits_load.ensures ∙ not-true _ (ap not c.if-not-limits_load.true)) in
     λ n k l by small. light_part c.args.rule n _ k l c.requires.1 few
 
-pub label_row-row-requires : goal.label_row-row-requires
-label_row-row-requires g c = (c.requires.0, c.requires.2)
-
-pub largest_load-requires : goal.largest_load-requires
-largest_load-requires g c = (c.requires.0, c.label_row-row.ensures.0)
-
 pub returns : goal.returns
 returns g c =
     let load = c.largest_load.result in

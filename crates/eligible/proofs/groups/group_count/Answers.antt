@@ -13,9 +13,6 @@ ready c =
     let a = c.args in
     ready_part c.scope.result (subst (λ (q : ℕ). LabelsReady a.placed q a.label.now) (sym c.level.ensures.0) c.requires)
 
-pub labels_of-labels-requires : goal.labels_of-labels-requires
-labels_of-labels-requires c = (ready c).row
-
 pub returns : goal.returns
 returns c =
     let a = c.args in (

@@ -1,10 +1,6 @@
 -- `eligible::plan::label_of` meets its contract: a class that somebody has is not empty, and its lowest person names it. Assumes nothing.
-use native.Mathlib.Omega.{arith}
 use Rattle.eligible.proofs.Names.{mask_name}
 use Rattle.eligible.proofs.plan.label_of.Goals as goal
-
-pub returns-then-class-eq0 : goal.returns-then-class-eq0
-returns-then-class-eq0 c = (λ people g l. mask_name people _ g l c.mates-class.ensures (λ some. absurd (some c.if-class-eq0.true)), omega arith)
 
 pub returns : goal.returns
 returns c = (λ people g l. mask_name people _ g l c.mates-class.ensures (λ some. c.lowest.ensures.1), c.lowest.ensures.0)

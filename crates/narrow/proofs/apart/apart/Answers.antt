@@ -1,13 +1,7 @@
 -- `narrow::apart::apart` meets its contract: the heads so far are apart. Assumes nothing.
 use native.Mathlib.Omega.{arith}
-use Rattle.narrow.proofs.Parting.{parting_none, parting_skip, parting_take}
+use Rattle.narrow.proofs.Parting.{parting_skip, parting_take}
 use Rattle.narrow.proofs.apart.apart.Goals as goal
-
-pub loop-s-init : goal.loop-s-init
-loop-s-init c = rw c.into_iter-s-iterator.ensures.into_iter_gives (rw c.members-s-items.ensures (c.requires.1, λ people g. parting_none))
-
-pub offset_bounds-dom-s : goal.offset_bounds-dom-s
-offset_bounds-dom-s c = omega (arith, c.in-Some.ensures.steps.1.below 12 c.loop-s.invariant.0)
 
 pub bounds-dom-s : goal.bounds-dom-s
 bounds-dom-s c = omega (arith, c.in-Some.ensures.steps.1.below 12 c.loop-s.invariant.0)
@@ -19,6 +13,3 @@ loop-s-preserved-then-shared-ne0 c =
 pub loop-s-preserved : goal.loop-s-preserved
 loop-s-preserved c =
     (omega (arith, c.in-Some.ensures.steps.1.less, c.loop-s.invariant.0), λ people g. parting_take (c.loop-s.invariant.1 people g) c.in-Some.ensures.steps.1 (c.reach-reached.ensures people g) c.if-shared-ne0.false c.with-heads.ensures)
-
-pub returns : goal.returns
-returns c = λ people g. (c.loop-s.invariant.1 people g).apart

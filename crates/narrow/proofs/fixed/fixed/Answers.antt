@@ -6,9 +6,6 @@ use Rattle.narrow.proofs.fixed.fixed.Goals as goal
 pub loop-s-init : goal.loop-s-init
 loop-s-init c = rw c.into_iter-s-iterator.ensures.into_iter_gives (rw c.members-s-items.ensures (c.requires.1, λ steps few people g. settling_none few))
 
-pub offset_bounds-dom-s : goal.offset_bounds-dom-s
-offset_bounds-dom-s c = omega (arith, c.in-Some.ensures.steps.1.below 12 c.loop-s.invariant.0)
-
 pub bounds-dom-s : goal.bounds-dom-s
 bounds-dom-s c = omega (arith, c.in-Some.ensures.steps.1.below 12 c.loop-s.invariant.0)
 

@@ -4,23 +4,11 @@ use Rattle.bits.proofs.Masks.{taken_below}
 use Rattle.pattern.specs.Rule.{unpacked}
 use Rattle.eligible.specs.Classes.{ForJobs}
 use Rattle.narrow.specs.Domains.{Revised}
-use Rattle.narrow.proofs.Loading.{revised_sized, closing_none, closing_skip, failure, closing_then, closing_more}
+use Rattle.narrow.proofs.Loading.{failure, closing_then, closing_more}
 use Rattle.narrow.proofs.load.by_load.Goals as goal
-
-pub loop-s-init : goal.loop-s-init
-loop-s-init c = rw c.into_iter-s-iterator.ensures.into_iter_gives (rw c.members-s-items.ensures (closing_none c.scope.ensures c.requires.2))
-
-pub offset_bounds-dom-s : goal.offset_bounds-dom-s
-offset_bounds-dom-s c = omega (arith, taken_below c.in-Some.ensures.steps.1 12 _ c.requires.1 c.loop-s.invariant.rest)
 
 pub bounds-dom-s : goal.bounds-dom-s
 bounds-dom-s c = omega (arith, taken_below c.in-Some.ensures.steps.1 12 _ c.requires.1 c.loop-s.invariant.rest)
-
-pub loop-s-preserved-then-mask-eq0 : goal.loop-s-preserved-then-mask-eq0
-loop-s-preserved-then-mask-eq0 c = closing_skip c.loop-s.invariant c.in-Some.ensures.steps.1
-
-pub close-requires : goal.close-requires
-close-requires c = (c.requires.1, revised_sized c.requires.1 c.loop-s.invariant.revised)
 
 pub returns-in_err-closed : goal.returns-in_err-closed
 returns-in_err-closed c =
@@ -32,6 +20,3 @@ pub loop-s-preserved : goal.loop-s-preserved
 loop-s-preserved c =
     closing_more c.loop-s.invariant c.in-Some.ensures.steps.1 c.level-level.ensures.0 c.shared-mask.ensures c.if-mask-eq0.false
     c.in_ok-closed.ensures.0 c.in_ok-closed.ensures.1
-
-pub returns : goal.returns
-returns c = let l = c.loop-s.invariant in (l.revised, l.small)

@@ -6,7 +6,7 @@ use native.Mathlib.Omega.{arith}
 use lib.Bits.{bit_xor}
 use Rattle.bits.proofs.Masks.{xor_all}
 use Rattle.narrow.proofs.Restricting.{changed_small}
-use Rattle.narrow.proofs.Loading.{revised_none, closed_lost, closed_rest, others_small}
+use Rattle.narrow.proofs.Loading.{closed_lost, closed_rest, others_small}
 use Rattle.narrow.proofs.load.close.Goals as goal
 use Rattle.narrow.proofs.load.close.Goals.{After-load-highest}
 
@@ -16,9 +16,6 @@ returns-then-load-highest c = (
       (omega (arith, c.size-load.ensures, c.load-highest.ensures, c.if-load-highest.true)),
   omega arith,
 )
-
-pub returns-then-load-highest-2 : goal.returns-then-load-highest-2
-returns-then-load-highest-2 c = (λ j o. revised_none c.requires.1, omega arith)
 
 -- the other steps of the scope
 others : (c : After-load-highest) → bit_xor c.scope-scope.result c.within-held.result < 4096
