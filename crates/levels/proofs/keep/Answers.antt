@@ -1,13 +1,7 @@
 -- `levels::keep` meets its contract. Assumes nothing.
 use native.Mathlib.Omega.{arith}
-use Rattle.levels.proofs.Copying.{old_levels}
-use Rattle.levels.proofs.Trimming.{ruled_trimmed, table_trimmed, trims}
+use Rattle.levels.proofs.Trimming.{table_trimmed, trims}
 use Rattle.levels.proofs.keep.Goals as goal
-
-pub rows-kept-requires : goal.rows-kept-requires
-rows-kept-requires c =
-    let p = c.requires in
-    (p.ruled.few_levels, old_levels c.number-numbers.ensures, p.classes)
 
 pub crowds-crowd-requires : goal.crowds-crowd-requires
 crowds-crowd-requires c =
@@ -17,12 +11,6 @@ crowds-crowd-requires c =
       table_trimmed a.size c.number-numbers.result.count c.marks-marked.result a.class.now a.rule.now c.rows-kept.result c.renumber-renumbered.result
           c.number-numbers.result.old c.number-numbers.result.new t c.marks-marked.ensures c.number-numbers.ensures c.rows-kept.ensures c.renumber-renumbered.ensures,
     )
-
-pub naming-of-requires : goal.naming-of-requires
-naming-of-requires c =
-    let a = c.args in
-    ruled_trimmed a.size c.number-numbers.result.count c.marks-marked.result a.class.now a.rule.now c.rows-kept.result c.renumber-renumbered.result
-    c.number-numbers.result.old c.number-numbers.result.new c.requires c.marks-marked.ensures c.number-numbers.ensures c.rows-kept.ensures c.renumber-renumbered.ensures
 
 pub returns : goal.returns
 returns c =

@@ -3,9 +3,6 @@ use native.Mathlib.Omega.{arith}
 use Rattle.levels.proofs.Numbering.{marks_more}
 use Rattle.levels.proofs.marks.Goals as goal
 
-pub loop-i-init : goal.loop-i-init
-loop-i-init c = (omega arith, λ i l. absurd (omega arith))
-
 pub loop-i-preserved : goal.loop-i-preserved
 loop-i-preserved c =
     let v = c.level in

@@ -1,19 +1,11 @@
 -- `levels::renumber` meets its contract: the rules passed have their new levels. Assumes nothing.
-use mathlib.Core.Path.{refl, subst}
+use mathlib.Core.Path.{subst}
 use Prim.Native.Nat.{ℕ, ◌%◌}
 use native.Mathlib.Omega.{arith}
 use lib.ListN.{get_or}
 use Rattle.levels.proofs.Copying.{renumbered_more}
 use Rattle.pattern.specs.Rule.{least_in, most_in, load_in, scope_in, Packed}
 use Rattle.levels.proofs.renumber.Goals as goal
-
-pub loop-i-init : goal.loop-i-init
-loop-i-init c = (omega arith, record { sized = refl; each = λ i l. absurd (omega arith) })
-
-pub bounds-new-q : goal.bounds-new-q
-bounds-new-q c =
-    let p = c.requires.0 in
-    omega (arith, c.level-q.ensures.0, (p.rule_ok c.loop-i.i c.loop-i-test.true).to, p.few_levels)
 
 pub loop-i-preserved : goal.loop-i-preserved
 loop-i-preserved c =

@@ -1,12 +1,12 @@
 -- `levels::rows` meets its contract: the entries passed are copied. Assumes nothing.
-use mathlib.Core.Path.{refl, sym, subst}
+use mathlib.Core.Path.{sym, subst}
 use Prim.Native.Nat.{ℕ, ◌+◌, ◌/◌, ◌≤◌}
 use native.Mathlib.Omega.{arith}
 use lib.ListN.{get_or}
 use Rattle.bits.specs.Sizes.{most_levels, class_entries}
 use Rattle.levels.specs.Trims.{OldLevels}
 use Rattle.bits.proofs.Copied.{copied_more}
-use Rattle.levels.proofs.Copying.{row_entry, row_from, row_to, copied_rows, rows_all}
+use Rattle.levels.proofs.Copying.{row_entry, row_to, copied_rows, rows_all}
 use Rattle.levels.proofs.rows.Goals as goal
 use Rattle.levels.proofs.rows.Goals.{In-loop-x}
 
@@ -15,15 +15,9 @@ returns-then-count-levels c =
     let all = subst (λ (n : ℕ). OldLevels n c.args.count c.args.old.now) (sym c.if-count-levels.true) c.requires.1 in
     rows_all all c.args.class.now c.requires.2
 
-pub loop-x-init : goal.loop-x-init
-loop-x-init c = (refl, omega arith, record { sized = refl; each = λ i l. absurd (omega arith) })
-
 -- the level of a turn
 below : (c : In-loop-x) → get_or c.args.old.now (c.loop-x.x / 64 + 1) 0 ≤ most_levels
 below c = omega (arith, row_to c.requires.1 c.loop-x.x c.loop-x-test.true, c.requires.0)
-
-pub overflow_sub-kept : goal.overflow_sub-kept
-overflow_sub-kept c = row_from c.requires.1 c.loop-x.x c.loop-x-test.true
 
 pub loop-x-preserved : goal.loop-x-preserved
 loop-x-preserved c =

@@ -1,12 +1,9 @@
 -- The proof of the cycle of calls {augment, place}. Assumes nothing.
 use native.Mathlib.Omega.{arith}
-use Rattle.matching.proofs.Turn.{turn_of, turn_free, turn_crowded, turn-first, turn_last, turn_unheld, turn_ready, turn_below, turn_won, turn_lost, turn_less}
+use Rattle.matching.proofs.Turn.{turn_of, turn_free, turn_crowded, turn_last, turn_unheld, turn_ready, turn_below, turn_won, turn_lost, turn_less}
 use mathlib.Core.Path.{subst}
 use Rattle.matching.specs.State.{Holder}
 use Rattle.matching.proofs.+augment_place.Goals as goal
-
-pub augment-loop-g-init : goal.augment-loop-g-init
-augment-loop-g-init t c = turn-first c.requires
 
 pub augment-returns-then-left-eq0 : goal.augment-returns-then-left-eq0
 augment-returns-then-left-eq0 t c = turn_last c.loop-g.invariant c.if-left-eq0.true

@@ -2,7 +2,7 @@
 -- begins, and a group that is stuck leaves no assignment at all. Assumes nothing.
 use mathlib.Core.Path.{refl}
 use Prim.Native.Nat.{◌-◌, ◌^◌}
-use Rattle.matching.proofs.Groups.{partial_none, next_ready, next_placed, next_none, partial_all}
+use Rattle.matching.proofs.Groups.{partial_none, next_placed, next_none, partial_all}
 use mathlib.Core.Bool.{not}
 use mathlib.Core.Path.{ap}
 use Rattle.matching.proofs.assign.Goals as goal
@@ -11,9 +11,6 @@ pub loop-g-init : goal.loop-g-init
 loop-g-init c =
     rw c.into_iter-g-iterator.ensures.into_iter_gives (rw c.members-g-items.ensures
     (refl, partial_none c.args.edges.now c.args.groups (2 ^ 64 - 1)))
-
-pub place-requires : goal.place-requires
-place-requires c = next_ready c.loop-g.invariant.1 c.in-Some.ensures.steps.1
 
 pub returns-then-not-place : goal.returns-then-not-place
 returns-then-not-place c =

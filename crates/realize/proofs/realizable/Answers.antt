@@ -1,9 +1,6 @@
 -- `realize::realizable` meets its contract: at level 0 the one group is that of all placed steps, and the one class everybody. Assumes nothing.
-use Rattle.realize.proofs.Top.{whole_sized, decided_realizable}
+use Rattle.realize.proofs.Top.{decided_realizable}
 use Rattle.realize.proofs.realizable.Goals as goal
-
-pub decide-requires : goal.decide-requires
-decide-requires c = whole_sized c.whole.ensures c.requires.0
 
 pub returns : goal.returns
 returns c = decided_realizable c.whole.ensures c.decide.ensures

@@ -2,15 +2,7 @@
 use mathlib.Core.Path.{refl}
 use native.Mathlib.Omega.{arith}
 use Rattle.relax.proofs.Carrying.{carries_more}
-use Rattle.relax.proofs.Following.{carriable}
 use Rattle.relax.proofs.carry.Goals as goal
-
-pub loop-i-init : goal.loop-i-init
-loop-i-init c = (refl, omega arith, record { sized = refl; follows = λ i l. absurd (omega arith) })
-
-pub say-requires : goal.say-requires
-say-requires c =
-    carriable c.args.size c.args.class.now c.args.rule.now c.requires.0 c.loop-i.i (omega arith) c.args.q c.requires.1 c.requires.2
 
 pub loop-i-preserved : goal.loop-i-preserved
 loop-i-preserved c =

@@ -1,5 +1,5 @@
 -- `relax::to_coarser` meets its contract. Assumes nothing.
-use mathlib.Core.Path.{refl, sym, subst, ◌∙◌}
+use mathlib.Core.Path.{refl, subst, ◌∙◌}
 use Prim.Native.Nat.{ℕ, ◌-◌}
 use native.Mathlib.Omega.{arith}
 use Rattle.bits.proofs.Counting.{count-le}
@@ -9,7 +9,7 @@ use Rattle.pattern.specs.Rule.{scope_in}
 use Rattle.pattern.specs.Tables.{class_in}
 use Rattle.relax.proofs.Following.{follows_one, follows_several}
 use Rattle.relax.proofs.Tallying.{classes_few}
-use Rattle.relax.specs.Bound.{Nests, Counted, Needs}
+use Rattle.relax.specs.Bound.{Counted, Needs}
 use Rattle.relax.proofs.to_coarser.Goals as goal
 
 pub returns-then-lowest-lt2 : goal.returns-then-lowest-lt2
@@ -17,20 +17,6 @@ returns-then-lowest-lt2 c =
     let p = c.without_load-loose.ensures in
     follows_one c.requires.0 c.requires.1 (omega (arith, c.least-lowest.ensures.0, c.if-lowest-lt2.true))
     (packed_as p.its_least p.its_most p.its_load p.its_scope c.moved.ensures)
-
-pub ranks-found-requires : goal.ranks-found-requires
-ranks-found-requires c =
-    let w = c.requires.0 in
-    let e = c.level.ensures.0 in (
-      w.few_people,
-      w.classes,
-      w.from,
-      omega (arith, w.to, w.few_levels),
-      omega (arith, w.rule_ok.from),
-      omega (arith, w.rule_ok.to, w.few_levels),
-      subst (λ (k : ℕ). Nests c.args.size.people (class_in c.args.class.now c.args.q) (class_in c.args.class.now k)) (sym e)
-          (w.nests _ _ w.from c.requires.1 w.rule_ok.to),
-    )
 
 pub fewest-m-requires : goal.fewest-m-requires
 fewest-m-requires c =

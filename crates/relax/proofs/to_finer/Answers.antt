@@ -1,5 +1,5 @@
 -- `relax::to_finer` meets its contract. Assumes nothing.
-use mathlib.Core.Path.{◌≡◌, refl, sym, subst, ◌∙◌, ap}
+use mathlib.Core.Path.{◌≡◌, refl, subst, ◌∙◌, ap}
 use Prim.Native.Nat.{ℕ, ◌-◌, ◌<◌}
 use native.Mathlib.Omega.{arith}
 use lib.Count.{ones}
@@ -7,36 +7,17 @@ use borrow.Author.Rules.{rules}
 use Rattle.pattern.proofs.Packing.{packed_as}
 use Rattle.pattern.specs.Rule.{level_in, most_in}
 use Rattle.pattern.specs.Tables.{class_in}
-use Rattle.relax.proofs.Following.{scope_few, follows_unlimited, follows_limited, follows_all}
+use Rattle.relax.proofs.Following.{follows_unlimited, follows_limited, follows_all}
 use Rattle.relax.proofs.Tallying.{classes_few}
-use Rattle.relax.specs.Bound.{Nests, Counted, together}
+use Rattle.relax.specs.Bound.{Counted, together}
 use Rattle.relax.specs.declared.bound.Ranked.{Ranked}
 use Rattle.relax.proofs.to_finer.Goals as goal
 use Rattle.relax.proofs.to_finer.Goals.{After-most-b, After-ranks-found}
-
-pub overflow_cast-scope : goal.overflow_cast-scope
-overflow_cast-scope c =
-    let e : ones c.scope.result ≡ _ = ap ones c.scope.ensures in
-    omega (arith, scope_few c.requires.0)
 
 pub returns-then-scope-highest : goal.returns-then-scope-highest
 returns-then-scope-highest c =
     let e : ones c.scope.result ≡ _ = ap ones c.scope.ensures in
     follows_unlimited c.requires.0 c.requires.1 (omega (arith, c.most-highest.ensures.0, c.if-scope-highest.true)) c.moved.ensures
-
-pub ranks-found-requires : goal.ranks-found-requires
-ranks-found-requires c =
-    let w = c.requires.0 in
-    let e = c.level.ensures.0 in (
-      w.few_people,
-      w.classes,
-      omega (arith, w.rule_ok.from),
-      omega (arith, w.rule_ok.to, w.few_levels),
-      w.from,
-      omega (arith, w.to, w.few_levels),
-      subst (λ (k : ℕ). Nests c.args.size.people (class_in c.args.class.now k) (class_in c.args.class.now c.args.q)) (sym e)
-          (w.nests _ _ w.rule_ok.from c.requires.1 w.to),
-    )
 
 pub most-b-requires : goal.most-b-requires
 most-b-requires c =

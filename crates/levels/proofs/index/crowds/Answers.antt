@@ -6,32 +6,14 @@ use borrow.Author.Tests.{not-false}
 use Rattle.bits.proofs.Says.{says_true}
 use Rattle.bits.specs.Sizes.{class_entries}
 use Rattle.pattern.proofs.Nesting.{number_is}
-use Rattle.levels.proofs.Crowds.{completing_none, completing_more, completed}
+use Rattle.levels.proofs.Crowds.{completing_more, completed}
 use mathlib.Core.Bool.{not}
 use mathlib.Core.Path.{ap}
 use Rattle.levels.proofs.index.crowds.Goals as goal
 use Rattle.levels.proofs.index.crowds.Goals.{In-loop-p}
 
-pub gather-requires : goal.gather-requires
-gather-requires c = let q = c.requires in (q.1.few, q.0, q.1.sized)
-
-pub alone-requires : goal.alone-requires
-alone-requires c = let q = c.requires in (q.1.few, q.1.sized, omega (arith, q.0))
-
-pub gather-requires-then-not-alone : goal.gather-requires-then-not-alone
-gather-requires-then-not-alone c = let q = c.requires in (q.1.few, q.0, q.1.sized)
-
-pub gather-crowd-requires : goal.gather-crowd-requires
-gather-crowd-requires c = let q = c.requires in (q.1.few, omega (arith, q.0), q.1.sized)
-
-pub loop-p-init : goal.loop-p-init
-loop-p-init c = (omega arith, completing_none c.requires.1.few c.gather-crowd.ensures)
-
 index : (c : In-loop-p) → (c.args.levels - 1) * 64 + c.loop-p.p < class_entries
 index c = omega (arith, c.requires.0, c.requires.1.few, c.loop-p-test.true, c.if-levels-eq0.false)
-
-pub bounds-crowd-last : goal.bounds-crowd-last
-bounds-crowd-last c = index c.before
 
 pub loop-p-preserved : goal.loop-p-preserved
 loop-p-preserved c =

@@ -1,11 +1,8 @@
 -- `levels::index::naming` meets its contract: the rules passed are with the steps that they name. Assumes nothing.
 use Rattle.pattern.proofs.Given.{scope_small}
-use Rattle.levels.proofs.Names.{naming_none, giving_none, giving_next, naming_next, naming_all}
+use Rattle.levels.proofs.Names.{giving_none, giving_next, naming_next, naming_all}
 use native.Mathlib.Omega.{arith}
 use Rattle.levels.proofs.index.naming.Goals as goal
-
-pub loop-i-init : goal.loop-i-init
-loop-i-init c = (omega arith, naming_none c.args.rule.now)
 
 pub loop-s-init : goal.loop-s-init
 loop-s-init c =

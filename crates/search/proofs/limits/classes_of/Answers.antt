@@ -2,13 +2,10 @@
 use mathlib.Core.Path.{sym, ◌∙◌}
 use native.Mathlib.Omega.{arith}
 use borrow.Author.Tests.{not-true}
-use Rattle.search.proofs.LowerLimits.{gathering_none, gathering_past, gathering_more, gathering_all}
+use Rattle.search.proofs.LowerLimits.{gathering_past, gathering_more, gathering_all}
 use mathlib.Core.Bool.{not}
 use mathlib.Core.Path.{ap}
 use Rattle.search.proofs.limits.classes_of.Goals as goal
-
-pub loop-s-init : goal.loop-s-init
-loop-s-init c = (omega arith, gathering_none c.args.reach.now c.args.q c.args.scope)
 
 pub loop-s-preserved-then-not-has : goal.loop-s-preserved-then-not-has
 loop-s-preserved-then-not-has c =

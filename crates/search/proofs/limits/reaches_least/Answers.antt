@@ -4,7 +4,6 @@ use Prim.Native.Nat.{ℕ, ◌-◌}
 use native.Mathlib.Omega.{arith}
 use Rattle.std.specs.Prelude.{is_some}
 use lib.Count.{ones}
-use Rattle.bits.proofs.Counting.{count-le}
 use Rattle.bits.proofs.Ones.{ones_bits}
 use Rattle.bits.specs.Below.{count}
 use Rattle.bits.specs.Word.{has_bit}
@@ -18,10 +17,6 @@ use Rattle.search.proofs.limits.reaches_least.Goals.{After-scope-scope}
 -- the size of the scope
 scope-size : (c : After-scope-scope) → ones c.scope-scope.result ≡ count c.args.steps (has_bit (scope_in c.args.r))
 scope-size c = ap ones c.scope-scope.ensures ∙ ones_bits c.args.steps (scope_in c.args.r) c.requires.4
-
-pub overflow_cast-scope : goal.overflow_cast-scope
-overflow_cast-scope c =
-    omega (arith, scope-size c.before.before, count-le c.args.steps (has_bit (scope_in c.args.r)), c.requires.0)
 
 pub overflow_sub-scope : goal.overflow_sub-scope
 overflow_sub-scope c =

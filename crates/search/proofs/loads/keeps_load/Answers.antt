@@ -2,7 +2,6 @@
 use mathlib.Core.Path.{sym, subst}
 use Rattle.std.specs.Prelude.{is_some}
 use Prim.Native.Nat.{ℕ, ◌-◌, ◌/◌, ◌^◌, ◌<◌}
-use native.Mathlib.Nat.{div-le_self}
 use native.Mathlib.Omega.{arith}
 use Rattle.pattern.specs.Rule.{level_in, load_in, scope_in}
 use Rattle.search.proofs.GreatestLoads.{width_room, none_above, keeping, keeping_unknown}
@@ -14,18 +13,10 @@ returns-then-load-lt2 c =
     let a = c.args in
     keeping_unknown a.steps a.reach.now (level_in a.r - 1) (scope_in a.r) (load_in a.r)
 
-pub below-low-requires : goal.below-low-requires
-below-low-requires c = div-le_self 64 c.load-load.result
-
 pub returns-then-all-low : goal.returns-then-all-low
 returns-then-all-low c =
     let a = c.args in
     keeping_unknown a.steps a.reach.now (level_in a.r - 1) (scope_in a.r) (load_in a.r)
-
-pub places_of-edges-requires : goal.places_of-edges-requires
-places_of-edges-requires c =
-    let fit = width_room c.load-load.result (omega (arith, c.if-load-lt2.false)) (omega (arith, c.load-load.ensures.1)) in
-    (c.requires.0, c.requires.1, omega (arith, c.level-q.ensures.0, c.requires.2, c.requires.3), fit.0, fit.1)
 
 pub returns : goal.returns
 returns c =

@@ -1,13 +1,7 @@
 -- `search::loads::places_of` meets its contract. The loop's invariant: the steps passed have their places. Assumes nothing.
 use native.Mathlib.Omega.{arith}
-use Rattle.search.proofs.GreatestLoads.{places_none, places_more, places_all}
+use Rattle.search.proofs.GreatestLoads.{places_more, places_all}
 use Rattle.search.proofs.loads.places_of.Goals as goal
-
-pub loop-s-init : goal.loop-s-init
-loop-s-init c = (omega arith, places_none c.args.reach.now c.args.q c.args.width c.args.load)
-
-pub repeated-requires : goal.repeated-requires
-repeated-requires c = let p = c.requires in (p.3, p.4)
 
 pub loop-s-preserved : goal.loop-s-preserved
 loop-s-preserved c =

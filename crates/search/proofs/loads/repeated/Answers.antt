@@ -1,20 +1,14 @@
 -- `search::loads::repeated` meets its contract. The loop's invariant: the classes have the places passed. Assumes nothing.
 use Prim.Native.Nat.{◌*◌, ◌<◌}
 use native.Mathlib.Omega.{arith}
-use Rattle.search.proofs.GreatestLoads.{place_below, repeated_none, repeated_more, repeated_all}
+use Rattle.search.proofs.GreatestLoads.{place_below, repeated_more, repeated_all}
 use Rattle.search.proofs.loads.repeated.Goals as goal
 use Rattle.search.proofs.loads.repeated.Goals.{In-loop-k}
-
-pub loop-k-init : goal.loop-k-init
-loop-k-init c = (repeated_none c.args.m c.args.width, omega arith)
 
 -- the places start at a number that a word has
 start-below : (c : In-loop-k) → c.loop-k.k * c.args.width < 64
 start-below c =
     omega (arith, place_below c.loop-k.k c.args.width c.args.times 0 c.loop-k-test.true c.requires.0, c.requires.1)
-
-pub overflow_shl-all : goal.overflow_shl-all
-overflow_shl-all c = start-below c
 
 pub loop-k-preserved : goal.loop-k-preserved
 loop-k-preserved c =

@@ -1,10 +1,7 @@
 -- `search::pairs::inside` meets its contract. The loop's invariant: the classes of the people passed are inside. Assumes nothing.
 use native.Mathlib.Omega.{arith}
-use Rattle.search.proofs.PairedLoads.{inside_none, inside_more, inside-all}
+use Rattle.search.proofs.PairedLoads.{inside_more, inside-all}
 use Rattle.search.proofs.pairs.inside.Goals as goal
-
-pub loop-p-init : goal.loop-p-init
-loop-p-init c = (omega arith, inside_none c.args.class.now c.args.coarse c.args.fine)
 
 pub loop-p-preserved : goal.loop-p-preserved
 loop-p-preserved c =

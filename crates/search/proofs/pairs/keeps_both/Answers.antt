@@ -1,7 +1,6 @@
 -- `search::pairs::keeps_both` meets its contract. Assumes nothing.
 use mathlib.Core.Path.{sym, subst}
 use Prim.Native.Nat.{ℕ, ◌-◌, ◌/◌, ◌^◌, ◌<◌}
-use native.Mathlib.Nat.{div-le_self}
 use Rattle.std.specs.Prelude.{is_some}
 use native.Mathlib.Omega.{arith}
 use lib.Bits.{bit_and}
@@ -14,21 +13,10 @@ returns-then-load-lt2 c =
     let a = c.args in
     both_unknown a.size.steps a.size.people a.class.now a.reach.now a.r a.t
 
-pub below-low-requires : goal.below-low-requires
-below-low-requires c = div-le_self 64 c.load-load.result
-
 pub returns-then-all-low : goal.returns-then-all-low
 returns-then-all-low c =
     let a = c.args in
     both_unknown a.size.steps a.size.people a.class.now a.reach.now a.r a.t
-
-pub room_of-room-requires : goal.room_of-room-requires
-room_of-room-requires c = (c.inside-within.ensures.sized, c.load.ensures.1, (width_room c.load-load.result (omega (arith, c.if-load-lt2.false)) (omega (arith, c.load-load.ensures.1))).0)
-
-pub places_of-edges-requires : goal.places_of-edges-requires
-places_of-edges-requires c =
-    let fit = width_room c.load-load.result (omega (arith, c.if-load-lt2.false)) (omega (arith, c.load-load.ensures.1)) in
-    (c.requires.0, c.requires.3, omega (arith, c.level-q.ensures.0, c.requires.4, c.requires.5), fit.0, fit.1)
 
 pub returns : goal.returns
 returns c =

@@ -2,12 +2,8 @@
 use mathlib.Core.Path.{subst}
 use Prim.Native.Nat.{ℕ, ◌*◌, ◌/◌, ◌≤◌}
 use native.Mathlib.Omega.{arith}
-use native.Mathlib.Nat.{mod-le, mul-le-mul_right}
-use Rattle.search.proofs.PairedLoads.{room_none, room_past, room_more, room_all}
+use Rattle.search.proofs.PairedLoads.{room_past, room_more, room_all}
 use Rattle.search.proofs.pairs.room_of.Goals as goal
-
-pub loop-x-init : goal.loop-x-init
-loop-x-init c = (omega arith, room_none c.args.within.now c.args.all c.args.load c.args.width)
 
 pub loop-x-preserved-then-size-load : goal.loop-x-preserved-then-size-load
 loop-x-preserved-then-size-load c =

@@ -1,12 +1,9 @@
 -- `search::patterns::give_first` meets its contract: the steps passed have their first people. Assumes nothing.
-use mathlib.Core.Path.{refl, subst}
+use mathlib.Core.Path.{subst}
 use native.Mathlib.Omega.{arith}
 use Rattle.search.specs.Existence.{Foremost}
 use Rattle.search.proofs.Staff.{spread_more, spread_past}
 use Rattle.search.proofs.patterns.give_first.Goals as goal
-
-pub loop-s-init : goal.loop-s-init
-loop-s-init c = (omega arith, record { sized = refl; each = λ s l. absurd (omega arith) })
 
 pub loop-s-preserved : goal.loop-s-preserved
 loop-s-preserved c =

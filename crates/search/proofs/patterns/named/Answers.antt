@@ -2,12 +2,9 @@
 use mathlib.Core.Path.{◌≡◌, subst}
 use Prim.Native.Nat.{ℕ}
 use native.Mathlib.Omega.{arith}
-use Rattle.search.proofs.Staff.{named_none, named_skip, named_take}
+use Rattle.search.proofs.Staff.{named_skip, named_take}
 use Rattle.search.specs.Existence.{Named}
 use Rattle.search.proofs.patterns.named.Goals as goal
-
-pub loop-s-init : goal.loop-s-init
-loop-s-init c = (omega arith, named_none c.args.of.now)
 
 pub loop-s-preserved-then-of-s-eq0 : goal.loop-s-preserved-then-of-s-eq0
 loop-s-preserved-then-of-s-eq0 c = (omega arith, named_skip c.loop-s.invariant.1 c.if-of-s-eq0.true)

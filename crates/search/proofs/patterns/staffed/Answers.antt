@@ -4,9 +4,6 @@ use borrow.Author.Count.{below_more}
 use Rattle.search.proofs.Staff.{somebody, nobody}
 use Rattle.search.proofs.patterns.staffed.Goals as goal
 
-pub loop-s-init : goal.loop-s-init
-loop-s-init c = (omega arith, λ s l. absurd (omega arith))
-
 pub returns-then-may-s-eq0 : goal.returns-then-may-s-eq0
 returns-then-may-s-eq0 c all =
     let x = all c.loop-s.s c.loop-s-test.true in nobody c.below-all.ensures _ c.if-may-s-eq0.true x.0 x.1 x.2

@@ -1,15 +1,7 @@
 -- `search::place::place` meets its contract: the levels passed have the grown labels. Assumes nothing.
 use native.Mathlib.Omega.{arith}
-use Rattle.search.proofs.Growth.{growing_none, growing_more, growing_all}
+use Rattle.search.proofs.Growth.{growing_more, growing_all}
 use Rattle.search.proofs.place.place.Goals as goal
-
-pub loop-q-init : goal.loop-q-init
-loop-q-init c = (omega arith, growing_none c.args.s c.args.t c.args.d c.args.label.now c.requires.sized)
-
-pub group-g-requires : goal.group-g-requires
-group-g-requires c =
-    let p = c.requires in
-    (omega (arith, p.few, c.loop-q-test.true), p.new, p.old, c.loop-q.invariant.1.sized)
 
 pub loop-q-preserved : goal.loop-q-preserved
 loop-q-preserved c =

@@ -8,12 +8,6 @@ use Rattle.search.proofs.refute.refuted_by_levels.Goals as goal
 pub returns-then-levels-lt2 : goal.returns-then-levels-lt2
 returns-then-levels-lt2 c = (refuting_none _ _, c.requires.2)
 
-pub loop-q-init : goal.loop-q-init
-loop-q-init c = (omega arith, c.requires.2)
-
-pub refuted-requires : goal.refuted-requires
-refuted-requires c = let p = c.requires in (p.0, p.1, c.loop-q.invariant.1, omega arith, omega arith)
-
 pub returns-then-refuted : goal.returns-then-refuted
 returns-then-refuted c = (subst (Refuting _ _) c.if-refuted.true c.refuted.ensures.0, c.refuted.ensures.1)
 

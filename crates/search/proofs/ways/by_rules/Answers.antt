@@ -3,9 +3,6 @@ use native.Mathlib.Omega.{arith}
 use Rattle.pattern.proofs.Given.{scope_small}
 use Rattle.search.proofs.ways.by_rules.Goals as goal
 
-pub loop-i-init : goal.loop-i-init
-loop-i-init c = (omega arith, c.requires.2)
-
 pub by_rule-requires : goal.by_rule-requires
 by_rule-requires c =
     let p = c.requires in

@@ -1,11 +1,7 @@
 -- `search::ways::keyed` keeps to its arrays. Assumes nothing.
 use native.Mathlib.Omega.{arith}
-use mathlib.Core.Path.{refl}
 use lib.ListN.{length-set}
 use Rattle.search.proofs.ways.keyed.Goals as goal
-
-pub loop-s-init : goal.loop-s-init
-loop-s-init c = rw c.into_iter-s-iterator.ensures.into_iter_gives (rw c.members-s-items.ensures (c.requires.1, refl))
 
 pub ways_of-requires : goal.ways_of-requires
 ways_of-requires c = let p = c.requires in (p.0, c.in-Some.ensures.steps.1.below 12 c.loop-s.invariant.0, p.2, p.3, p.4, p.5)

@@ -2,8 +2,5 @@
 use native.Mathlib.Omega.{arith}
 use Rattle.search.proofs.ways.ways_of.Goals as goal
 
-pub joined-requires : goal.joined-requires
-joined-requires c = let p = c.requires in (omega arith, p.1, omega arith, p.2, p.3, p.4)
-
 pub loop-k-preserved : goal.loop-k-preserved
 loop-k-preserved c = (omega arith, omega (arith, c.size.ensures.1))
