@@ -14,8 +14,7 @@ use Rattle.instance.proofs.Marked.{permits_left, satisfiable_in}
 use Rattle.signing.proofs.OpenCases.{open_cases}
 use Rattle.signing.specs.Cases.{OpenCase, unreadable, planless, done}
 use Rattle.signing.specs.Open.{open_answer}
-use Rattle.signing.specs.State.{never_opened, opened}
-use Rattle.signing.specs.declared.Answered.{Answered}
+use Rattle.signing.specs.State.{Answered, never_opened, opened}
 use Rattle.signing.specs.declared.JobState.{JobState}
 use Rattle.fulmarinvar.specs.Signing as demands
 use Rattle.fulmarinvar.specs.Demands.{NumberedRefusal}

@@ -25,8 +25,7 @@ use Rattle.signing.proofs.Cases.{sign_cases, sign_nothing, sign_unreadable}
 use Rattle.signing.specs.Bound.{is_open_lem}
 use Rattle.signing.specs.Cases.{Names, CanFinish, SignCase, unknown, signed, ungranted, given}
 use Rattle.signing.specs.Sign.{refused_signing, granted, sign_answer}
-use Rattle.signing.specs.State.{with_count, held}
-use Rattle.signing.specs.declared.Answered.{Answered}
+use Rattle.signing.specs.State.{Answered, with_count, held}
 use Rattle.signing.specs.declared.JobState.{JobState}
 use Rattle.fulmarinvar.specs.Signing as demands
 use Rattle.fulmarinvar.specs.Signing.{SignedAs, Agrees, Signs}

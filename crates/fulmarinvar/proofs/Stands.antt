@@ -30,8 +30,7 @@ use Rattle.signing.specs.Bound.{is_open_lem}
 use Rattle.signing.specs.Cases.{Names, CanFinish, OpenCase, unreadable, planless, done, SignCase, unknown, signed, ungranted, given}
 use Rattle.signing.specs.Open.{open_answer}
 use Rattle.signing.specs.Sign.{most_refusals, counted, refused_signing, granted, sign_answer}
-use Rattle.signing.specs.State.{never_opened, held, opened}
-use Rattle.signing.specs.declared.Answered.{Answered}
+use Rattle.signing.specs.State.{Answered, never_opened, held, opened}
 use Rattle.signing.specs.declared.JobState.{JobState}
 use Rattle.fulmarinvar.specs.Demands.{JobOfCards}
 use Rattle.fulmarinvar.specs.History.{Event, opening, signing, History, NeverOpened, last_opened, Granted, refused_count}

@@ -36,9 +36,8 @@ use Rattle.resiliency.specs.Spare.{cap_limit, spare_of, spare_read, spare_answer
 use Rattle.signing.specs.Open.{if_plan, open_read, open_answer}
 use Rattle.signing.specs.Bound.{is_open_lem, bound}
 use Rattle.signing.specs.Sign.{place_of, counted, refused_signing, first_refusal, decided, sign_of, sign_read, sign_answer}
-use Rattle.signing.specs.State.{held}
+use Rattle.signing.specs.State.{Answered, held}
 use Rattle.signing.specs.declared.JobState.{JobState}
-use Rattle.signing.specs.declared.Answered.{Answered}
 use Rattle.fulmarinvar.specs.Levels as demands
 use Rattle.fulmarinvar.specs.Levels.{SameCards}
 use Rattle.fulmarinvar.proofs.Alike.{along_alike}

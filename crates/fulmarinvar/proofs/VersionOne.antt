@@ -34,9 +34,8 @@ use Rattle.answer.specs.Crew.{crew_for, crew_of, crew_read, crew_answer}
 use Rattle.resiliency.specs.Spare.{cap_limit, spare_for, spare_of, spare_read, spare_answer}
 use Rattle.signing.specs.Open.{if_plan, open_read, open_answer}
 use Rattle.signing.specs.Sign.{sign_for, sign_of, sign_read, sign_answer}
-use Rattle.signing.specs.State.{held}
+use Rattle.signing.specs.State.{Answered, held}
 use Rattle.signing.specs.declared.JobState.{JobState}
-use Rattle.signing.specs.declared.Answered.{Answered}
 use Rattle.fulmarinvar.specs.FirstEdition as before
 use Rattle.fulmarinvar.specs.Levels as demands
 use Rattle.fulmarinvar.proofs.Alike.{along_alike}

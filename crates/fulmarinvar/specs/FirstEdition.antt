@@ -20,9 +20,8 @@ use Rattle.answer.specs.Crew.{crew_for}
 use Rattle.resiliency.specs.Spare.{cap_limit, spare_for}
 use Rattle.signing.specs.Open.{refused_opening, if_plan}
 use Rattle.signing.specs.Sign.{refused_signing, sign_for}
-use Rattle.signing.specs.State.{held}
+use Rattle.signing.specs.State.{Answered, held}
 use Rattle.signing.specs.declared.JobState.{JobState}
-use Rattle.signing.specs.declared.Answered.{Answered}
 
 -- ---- the cards
 

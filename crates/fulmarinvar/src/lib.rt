@@ -4,6 +4,7 @@
 
 ghost use Rattle.fulmarinvar.specs.Promise.{CrewPromise, SparePromise, OpenPromise, SignPromise, RefusalsPromise};
 
+use answer::number;
 use crew::crew;
 use exhaustive::crew_by_trial;
 use resiliency::call::spare;
@@ -16,7 +17,7 @@ use signing::sign::sign;
 pub extern "C" fn fulmarinvar_crew(sheet: &[u8], answer: &mut [u8]) -> u32
     ensures { CrewPromise sheet.now answer.old result answer.new }
 {
-    crew(sheet, answer)
+    number(crew(sheet, answer))
 }
 
 // Writes the first valid crew, found by trying every plan.
@@ -24,7 +25,7 @@ pub extern "C" fn fulmarinvar_crew(sheet: &[u8], answer: &mut [u8]) -> u32
 pub extern "C" fn fulmarinvar_crew_by_trial(sheet: &[u8], answer: &mut [u8]) -> u32
     ensures { CrewPromise sheet.now answer.old result answer.new }
 {
-    crew_by_trial(sheet, answer)
+    number(crew_by_trial(sheet, answer))
 }
 
 // Writes the spare count.
@@ -32,7 +33,7 @@ pub extern "C" fn fulmarinvar_crew_by_trial(sheet: &[u8], answer: &mut [u8]) -> 
 pub extern "C" fn fulmarinvar_spare(sheet: &[u8], answer: &mut [u8], cap: u32) -> u32
     ensures { SparePromise cap sheet.now answer.old result answer.new }
 {
-    spare(sheet, answer, cap)
+    number(spare(sheet, answer, cap))
 }
 
 // Opens a job with a sheet.
@@ -40,9 +41,7 @@ pub extern "C" fn fulmarinvar_spare(sheet: &[u8], answer: &mut [u8], cap: u32) -
 pub extern "C" fn fulmarinvar_open(job: &mut JobState, sheet: &[u8]) -> u32
     ensures { OpenPromise job.old sheet.now result job.new }
 {
-    let answered = open(*job, sheet);
-    *job = answered.job;
-    answered.number
+    number(open(job, sheet))
 }
 
 // Signs a step by a person, both by tag.
@@ -50,9 +49,7 @@ pub extern "C" fn fulmarinvar_open(job: &mut JobState, sheet: &[u8]) -> u32
 pub extern "C" fn fulmarinvar_sign(job: &mut JobState, step: u32, person: u32) -> u32
     ensures { SignPromise job.old step person result job.new }
 {
-    let answered = sign(*job, step, person);
-    *job = answered.job;
-    answered.number
+    number(sign(job, step, person))
 }
 
 // Tells the count of refused signings of a job.

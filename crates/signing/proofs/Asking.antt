@@ -1,7 +1,9 @@
 -- The question whether a job can still be finished, put to the tables of the search. Assumes nothing.
-use mathlib.Core.Bool.{Bool, ◌&&◌}
+use mathlib.Core.Bool.{Bool, true, false, ◌&&◌}
+use Rattle.std.specs.Prelude.{Option, Some, None, is_some}
+use Rattle.bits.proofs.Below.{true-false}
 use mathlib.Core.List.{List}
-use mathlib.Core.Path.{◌≡◌, sym, ◌∙◌, ap}
+use mathlib.Core.Path.{◌≡◌, refl, sym, ◌∙◌, ap}
 use Prim.Native.Nat.{ℕ, ◌≤◌, ◌<◌}
 use native.Mathlib.Omega.{arith}
 use lib.ListN.{get_or}
@@ -29,14 +31,18 @@ module _ {people steps rules : ℕ} {j : sheet.SheetJob} {t : Tables} {may rest 
       b.each s p (omega arith) (omega arith)
       ∙ ap (λ (x : Bool). x && left_to (get_or signer s 0) p) (m.permitted s p l k)
 
-  pub asked : {r : Bool} {plan plan' : List ℕ} → Existence (tabled_job t) (may_in rest) plan plan' r → Says r (Satisfiable (instance_of people steps rules j) (bound (may_of j) signer))
-  asked {r} {plan} {plan'} x =
-      let same = same_satisfiable w.same (may_in rest) in
-      says_of r (Satisfiable (instance_of people steps rules j) (bound (may_of j) signer))
+  pub asked : (o : Option (List ℕ)) → Existence (tabled_job t) (may_in rest) o
+      → Says (is_some o) (Satisfiable (instance_of people steps rules j) (bound (may_of j) signer))
+  asked (Some plan) x =
+      says_of true (Satisfiable (instance_of people steps rules j) (bound (may_of j) signer))
       (λ e.
       satisfiable_mono (instance_of people steps rules j) (may_in rest) (bound (may_of j) signer) (λ s p l k h. sym (same_may s p l k) ∙ h)
-      (same.1 (plan_in plan', x.won e)))
+      ((same_satisfiable w.same (may_in rest)).1 (plan_in plan, x.1)))
+      (λ e v. true-false refl e)
+  asked None x =
+      says_of false (Satisfiable (instance_of people steps rules j) (bound (may_of j) signer))
+      (λ e. true-false e refl)
       (λ e v.
-      x.lost e
-      (same.0
+      x
+      ((same_satisfiable w.same (may_in rest)).0
       (satisfiable_mono (instance_of people steps rules j) (bound (may_of j) signer) (may_in rest) (λ s p l k h. same_may s p l k ∙ h) v)))

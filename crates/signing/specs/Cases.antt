@@ -9,9 +9,8 @@ use Rattle.instance.specs.Instance.{instance_in, may_do}
 use Rattle.signing.specs.Bound.{is_open_lem, AgreesWith}
 use Rattle.signing.specs.Open.{refused_opening}
 use Rattle.signing.specs.Sign.{refused_signing, granted}
-use Rattle.signing.specs.State.{opened}
+use Rattle.signing.specs.State.{Answered, opened}
 use Rattle.signing.specs.declared.JobState.{JobState}
-use Rattle.signing.specs.declared.Answered.{Answered}
 
 -- the opening of the job j with the sheet s
 pub data OpenCase (s : List ℕ) (j : JobState) (r : Answered) : Type 0 where

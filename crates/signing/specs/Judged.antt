@@ -1,13 +1,12 @@
--- What a signing comes to, in one form for grants and refusals: the refusal, 0 for a grant, and who has signed then. Assumes nothing.
-use Rattle.std.specs.Prelude.{cond, List, ℕ, eqb}
-use Rattle.answer.specs.Number.{refusal_number}
-use Rattle.signing.specs.Sign.{counted}
-use Rattle.signing.specs.State.{with_count, with_signers}
+-- What a signing comes to, once it is judged. Assumes nothing.
+use Rattle.std.specs.Prelude.{Result, Ok, Err, List, ℕ}
+use Rattle.card.specs.Refusals.{fault_number}
+use Rattle.card.specs.declared.refusal.Fault.{Fault}
+use Rattle.signing.specs.Sign.{refused_signing}
+use Rattle.signing.specs.State.{Answered, with_signers}
 use Rattle.signing.specs.declared.JobState.{JobState}
-use Rattle.signing.specs.declared.Answered.{Answered}
 
-abbrev pub count_on : ℕ → ℕ → ℕ
-count_on n refusal = cond (eqb refusal 0) n (counted n)
-
-abbrev pub concluded : JobState → ℕ → List ℕ → Answered
-concluded j refusal signer = record { number = refusal_number refusal 0; job = with_signers (with_count j (count_on j.refusals refusal)) signer }
+-- a grant with who has signed then, or a refusal
+abbrev pub concluded : JobState → Result (List ℕ) Fault → Answered
+concluded j (Ok signer) = record { number = 0; job = with_signers j signer }
+concluded j (Err f) = refused_signing (fault_number f) j

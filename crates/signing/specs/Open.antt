@@ -6,9 +6,8 @@ use Rattle.sheet.specs.Read.{Read, job, fault, read_sheet}
 use Rattle.workflow.specs.First.{Found, found, nothing, first_plan}
 use Rattle.instance.specs.Instance.{instance_of, may_of}
 use Rattle.answer.specs.Number.{refusal_number}
-use Rattle.signing.specs.State.{opened}
+use Rattle.signing.specs.State.{Answered, opened}
 use Rattle.signing.specs.declared.JobState.{JobState}
-use Rattle.signing.specs.declared.Answered.{Answered}
 
 -- "opening refuses with 3 to 13 as the crew call does and leaves the job untouched"
 abbrev pub refused_opening : ℕ → ℕ → JobState → Answered

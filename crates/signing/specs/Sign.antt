@@ -10,9 +10,8 @@ use Rattle.workflow.specs.First.{Found, found, nothing, first_plan}
 use Rattle.instance.specs.Instance.{instance_of, may_of}
 use Rattle.answer.specs.Number.{refusal_number}
 use Rattle.signing.specs.Bound.{is_open_lem, bound}
-use Rattle.signing.specs.State.{with_count, with_signers, held}
+use Rattle.signing.specs.State.{Answered, with_count, with_signers, held}
 use Rattle.signing.specs.declared.JobState.{JobState}
-use Rattle.signing.specs.declared.Answered.{Answered}
 
 -- "A signing names step and person by tag": the place of a tag among n, and n where it is none of them
 unfoldable pub place_of : ℕ → List ℕ → ℕ → ℕ

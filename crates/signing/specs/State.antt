@@ -4,6 +4,11 @@ use Rattle.sheet.specs.Answer.{zeros}
 use Rattle.sheet.specs.Read.{most_bytes}
 use Rattle.signing.specs.declared.JobState.{JobState}
 
+-- what a call on a job returns, and the job that it leaves
+pub record Answered : Type 0 where
+  pub number : ℕ
+  pub job : JobState
+
 -- the job with another count, and with other signers
 abbrev pub with_count : JobState → ℕ → JobState
 with_count j n = record { refusals = n; sheet_len = j.sheet_len; sheet = j.sheet; signer = j.signer }

@@ -2,7 +2,7 @@
 ghost use Rattle.std.specs.Prelude.{◌≡◌, length};
 ghost use Rattle.signing.specs.Masks.{Left, BoundMasks};
 
-use bits::set::{has, with};
+use bits::set::Set;
 use bits::sizes::{Domains, MOST_PEOPLE, MOST_STEPS};
 
 // Those of some people who are left by a signer.
@@ -16,14 +16,14 @@ fn left(mask: u64, signer: u8) -> u64
         return 0;
     }
     let p = signer as usize - 1;
-    if !has(mask, p) {
+    if !mask.has(p) {
         return 0;
     }
-    with(0, p)
+    0.with(p)
 }
 
 // The same for each step.
-pub fn bound_masks<'a>(may: &'a Domains, signer: &'a [u8; MOST_STEPS]) -> Domains
+pub fn bound_masks(may: &Domains, signer: &[u8; MOST_STEPS]) -> Domains
     requires { (length may.now ≡ 12) × (length signer.now ≡ 12) }
     ensures { BoundMasks may.now signer.now 12 result }
 {

@@ -6,8 +6,9 @@ ghost use Rattle.signing.specs.State.{held_length, held};
 
 use super::JobState;
 use bits::sizes::MOST_BYTES;
+use card::refusal::Refusal;
 use remaining::read_job;
-use sheet::Sheet;
+use sheet::SheetJob;
 
 // The length of the sheet held. One that the job has no room for is none.
 fn held_length(len: u32) -> usize
@@ -20,12 +21,11 @@ fn held_length(len: u32) -> usize
 }
 
 // Reads it.
-pub fn read_held(job: JobState) -> Sheet
-    ensures { result ≡ remaining_of (held job) }
+pub fn read_held(job: &JobState) -> Result<SheetJob, Refusal>
+    ensures { result ≡ remaining_of (held job.now) }
 {
-    let sheet = job.sheet;
     let len = held_length(job.sheet_len);
-    read_job(&sheet[..len])
+    read_job(&job.sheet[..len])
 }
 
 // A sheet, and zeros after it.
@@ -34,8 +34,6 @@ pub fn stored(sheet: &[u8]) -> [u8; MOST_BYTES]
     ensures { result ≡ sheet.now ++ zeros (2256 - length sheet.now) }
 {
     let mut bytes = [0u8; MOST_BYTES];
-    for k in 0..sheet.len() {
-        bytes[k] = sheet[k];
-    }
+    bytes[..sheet.len()].copy_from_slice(sheet);
     bytes
 }

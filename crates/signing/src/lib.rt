@@ -1,4 +1,4 @@
-// Signing as the work goes, by value: the job under work, its opening with a sheet, and the signing of a step by a person.
+// Signing as the work goes: the job under work, its opening with a sheet, and the signing of a step by a person.
 #![tactic(auto)]
 
 use bits::sizes::{MOST_BYTES, MOST_STEPS};
@@ -21,11 +21,4 @@ pub struct JobState {
     pub sheet: [u8; MOST_BYTES],
     // Who signed each step that remains, counted from 1 in crew order; 0 for an open step.
     pub signer: [u8; MOST_STEPS],
-}
-
-// What a call on a job returns, and the job that it leaves.
-#[derive(Drop)]
-pub struct Answered {
-    pub number: u32,
-    pub job: JobState,
 }

@@ -1,4 +1,5 @@
 // Whether a job can still be finished.
+ghost use Rattle.std.specs.Prelude.{◌≡◌, length};
 ghost use Rattle.bits.specs.Says.{Says};
 ghost use Rattle.sheet.specs.Readable.{ReadableJob};
 ghost use Rattle.workflow.specs.Problem.{Satisfiable};
@@ -13,20 +14,13 @@ use sheet::SheetJob;
 use tables::{may_masks, pose};
 
 // Whether some valid plan gives each signed step to its signer.
-pub fn can_finish(
-    job: SheetJob,
-    people: usize,
-    steps: usize,
-    rules: usize,
-    signer: [u8; MOST_STEPS],
-) -> bool
-    requires { ReadableJob people steps rules job }
-    ensures { Says result (Satisfiable (instance_of people steps rules job) (bound (may_of job) signer)) }
+pub fn can_finish(job: &SheetJob, signer: &[u8; MOST_STEPS]) -> bool
+    requires { ReadableJob job.now.people job.now.steps job.now.rules job.now × (length signer.now ≡ 12) }
+    ensures { Says result (Satisfiable (instance_of job.now.people job.now.steps job.now.rules job.now) (bound (may_of job.now) signer.now)) }
 {
-    let may = may_masks(&job.permitted, people);
-    let rest = bound_masks(&may, &signer);
-    let tables = pose(job, people, steps, rules);
+    let may = may_masks(&job.permitted, job.people);
+    let rest = bound_masks(&may, signer);
+    let tables = pose(job);
     let mut weight = weights(&tables.of);
-    let mut plan = [0u8; MOST_STEPS];
-    exists(tables, &rest, &mut weight, &mut plan)
+    exists(&tables, &rest, &mut weight).is_some()
 }
