@@ -1,12 +1,10 @@
 -- `search::limits::reaches_least` meets its contract. Assumes nothing.
-use mathlib.Core.Path.{◌≡◌, subst, ap, ap₂, ◌∙◌}
+use mathlib.Core.Path.{subst, ap, ap₂, ◌∙◌}
 use Prim.Native.Nat.{ℕ, ◌-◌}
 use native.Mathlib.Omega.{arith}
 use Rattle.std.specs.Prelude.{is_some}
 use lib.Count.{ones}
 use Rattle.bits.proofs.Ones.{ones_bits}
-use Rattle.bits.specs.Below.{count}
-use Rattle.bits.specs.Word.{has_bit}
 use Rattle.matching.specs.Assignment.{Covers, in_mask, suits, classes_of}
 use Rattle.pattern.specs.Rule.{scope_in}
 use Rattle.search.proofs.LowerLimits.{reaching, reaching_unknown}
