@@ -52,6 +52,7 @@ fn augment(edges: &Edges, at: &mut Places, free: &mut u64, unseen: &mut u64, g: 
     ensures { Placement edges.now at.old at.new free.old free.new unseen.old unseen.new g result }
 {
     let suited = edges[g];
+    // No iterator over the set: a holder that is placed anew has seen classes too, so what is left is asked for in each turn.
     loop {
         let left = suited & *unseen;
         if left == 0 {

@@ -10,6 +10,7 @@ ghost use Rattle.pattern.specs.Given.{Classed};
 ghost use Rattle.pattern.specs.Rule.{level_in, least_in, most_in, scope_in, Packed};
 ghost use Rattle.relax.specs.Relaxed.{Carriable, Follows, Carries};
 
+use bits::set::Set;
 use bits::sizes::{Classes, MOST_RULES, Rules};
 use bound::{fewest, most, ranks};
 use pattern::{Size, rule};
@@ -22,7 +23,7 @@ fn to_finer(size: Size, class: &Classes, r: u32, q: usize) -> u32
     ensures { Follows size class.now q r result }
 {
     let highest = rule::most(r);
-    if u16::count_ones(rule::scope(r)) as usize <= highest {
+    if rule::scope(r).size() <= highest {
         return rule::moved(r, q);
     }
     let found = ranks(size.people, class, rule::level(r), q);

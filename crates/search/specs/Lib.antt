@@ -6,3 +6,4 @@ pub mod Limits
 pub mod Loads
 pub mod Opposed
 pub mod PairedLoads
+pub mod Ways

@@ -63,7 +63,7 @@ fn reaches_least(steps: usize, reach: &Reach, r: u32) -> bool
     let scope = rule::scope(r);
     let q = rule::level(r) - 1;
     let all = classes_of(steps, reach, q, scope);
-    let extra = extra_classes(all, u16::count_ones(scope) as usize - rule::least(r));
+    let extra = extra_classes(all, scope.size() - rule::least(r));
     let Some(mask) = extra else {
         return true;
     };

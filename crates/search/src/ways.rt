@@ -5,6 +5,7 @@ ghost use Rattle.std.specs.Prelude.{◌≡◌, ◌+◌, ◌<◌, ◌≤◌, leng
 ghost use Rattle.bits.specs.Sizes.{most_levels, label_entries};
 ghost use Rattle.pattern.specs.Given.{Ruled};
 ghost use Rattle.pattern.specs.Rule.{level_in, scope_in};
+ghost use Rattle.search.specs.Ways.{Tabular};
 
 use bits::set::{Set, members};
 use bits::sizes::{LABEL_ENTRIES, Labels, MOST_LEVELS, MOST_STEPS, Reach, Rules, Weights};
@@ -15,6 +16,15 @@ use workflow::count::class_count;
 
 // Any label.
 const ANY: u16 = 0xffff;
+
+// What the ways of a step depend on: the classes with somebody for each step, the labels that the rules leave to it, and the labels of
+// the placed steps.
+#[derive(Clone, Copy)]
+pub struct Leeway<'a> {
+    pub reach: &'a Reach,
+    pub free: &'a [u16; LABEL_ENTRIES],
+    pub label: &'a Labels,
+}
 
 // The steps of a scope that are in a set.
 fn within(scope: u16, steps: u16) -> u16
@@ -73,21 +83,16 @@ fn by_rules(size: Size, rule: &Rules, placed: u16, label: &Labels, free: &mut [u
 
 // Whether step `s` can join the group of level `q` + 1 that is named by `t`: they reach a class in common,
 // and the labels are free.
-fn joinable(
-    reach: &Reach,
-    free: &[u16; LABEL_ENTRIES],
-    label: &Labels,
-    q: usize,
-    s: usize,
-    t: usize,
-) -> bool
-    requires { (q < most_levels) × (s < 12) × (t < 12) × (length reach.now ≡ label_entries) × (length free.now ≡ label_entries) × (length label.now ≡ label_entries) }
+fn joinable(leeway: &Leeway, q: usize, s: usize, t: usize) -> bool
+    requires { (q < most_levels) × (s < 12) × (t < 12) × Tabular leeway.now }
 {
-    if reach[q * MOST_STEPS + s] & reach[q * MOST_STEPS + t] == 0 {
+    let top = q * MOST_STEPS;
+    if leeway.reach[top + s] & leeway.reach[top + t] == 0 {
         return false;
     }
     for x in 0..q + 1 {
-        if !free[x * MOST_STEPS + s].has((label[x * MOST_STEPS + t] % 16) as usize) {
+        let own = leeway.label[x * MOST_STEPS + t] % 16;
+        if !leeway.free[x * MOST_STEPS + s].has(own as usize) {
             return false;
         }
     }
@@ -95,19 +100,12 @@ fn joinable(
 }
 
 // Those of some groups of level `q` + 1 that step `s` can join.
-fn joined(
-    reach: &Reach,
-    free: &[u16; LABEL_ENTRIES],
-    label: &Labels,
-    q: usize,
-    s: usize,
-    groups: u16,
-) -> u16
-    requires { (q < most_levels) × (s < 12) × (groups < 4096) × (length reach.now ≡ label_entries) × (length free.now ≡ label_entries) × (length label.now ≡ label_entries) }
+fn joined(leeway: &Leeway, q: usize, s: usize, groups: u16) -> u16
+    requires { (q < most_levels) × (s < 12) × (groups < 4096) × Tabular leeway.now }
 {
     let mut found: u16 = 0;
     for t in members(groups) {
-        if !joinable(reach, free, label, q, s, t) {
+        if !joinable(leeway, q, s, t) {
             continue;
         }
         found = found.with(t);
@@ -116,22 +114,14 @@ fn joined(
 }
 
 // How many ways step `s` has: to join a group and be new below its level, or new at all levels.
-fn ways_of(
-    levels: usize,
-    reach: &Reach,
-    free: &[u16; LABEL_ENTRIES],
-    label: &Labels,
-    heads: &[u16; MOST_LEVELS],
-    s: usize,
-) -> u32
-    requires { (levels ≤ most_levels) × (s < 12) × (length reach.now ≡ label_entries) × (length free.now ≡ label_entries) × (length label.now ≡ label_entries)
-        × (length heads.now ≡ most_levels) }
+fn ways_of(levels: usize, leeway: &Leeway, heads: &[u16; MOST_LEVELS], s: usize) -> u32
+    requires { (levels ≤ most_levels) × (s < 12) × Tabular leeway.now × (length heads.now ≡ most_levels) }
 {
     let mut ways: u32 = 0;
     for k in 0..levels {
         let q = levels - 1 - k;
-        ways += joined(reach, free, label, q, s, heads[q] % 4096).size() as u32;
-        if !free[q * MOST_STEPS + s].has(s) {
+        ways += joined(leeway, q, s, heads[q] % 4096).size() as u32;
+        if !leeway.free[q * MOST_STEPS + s].has(s) {
             return ways;
         }
     }
@@ -158,20 +148,17 @@ fn key(ways: u32, weight: u32) -> u64 {
 // The keys of the steps of `rest`.
 fn keyed(
     levels: usize,
-    reach: &Reach,
-    free: &[u16; LABEL_ENTRIES],
-    label: &Labels,
+    leeway: &Leeway,
     heads: &[u16; MOST_LEVELS],
     weight: &Weights,
     rest: u16,
 ) -> [u64; MOST_STEPS]
-    requires { (levels ≤ most_levels) × (rest < 4096) × (length reach.now ≡ label_entries) × (length free.now ≡ label_entries) × (length label.now ≡ label_entries)
-        × (length heads.now ≡ most_levels) × (length weight.now ≡ 12) }
+    requires { (levels ≤ most_levels) × (rest < 4096) × Tabular leeway.now × (length heads.now ≡ most_levels) × (length weight.now ≡ 12) }
     ensures { length result ≡ 12 }
 {
     let mut keys = [0u64; MOST_STEPS];
     for s in members(rest) {
-        keys[s] = key(ways_of(levels, reach, free, label, heads, s), weight[s]);
+        keys[s] = key(ways_of(levels, leeway, heads, s), weight[s]);
     }
     keys
 }
@@ -192,5 +179,10 @@ pub fn keys(
     let mut free = [ANY; LABEL_ENTRIES];
     by_rules(size, rule, placed, label, &mut free);
     let heads = heads_of(size.levels, placed, label);
-    keyed(size.levels, reach, &free, label, &heads, weight, rest)
+    let leeway = Leeway {
+        reach: reach,
+        free: &free,
+        label: label,
+    };
+    keyed(size.levels, &leeway, &heads, weight, rest)
 }

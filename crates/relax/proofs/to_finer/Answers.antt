@@ -14,10 +14,10 @@ use Rattle.relax.specs.declared.bound.Ranked.{Ranked}
 use Rattle.relax.proofs.to_finer.Goals as goal
 use Rattle.relax.proofs.to_finer.Goals.{After-most-b, After-ranks-found}
 
-pub returns-then-scope-highest : goal.returns-then-scope-highest
-returns-then-scope-highest c =
+pub returns-then-size-highest : goal.returns-then-size-highest
+returns-then-size-highest c =
     let e : ones c.scope.result ≡ _ = ap ones c.scope.ensures in
-    follows_unlimited c.requires.0 c.requires.1 (omega (arith, c.most-highest.ensures.0, c.if-scope-highest.true)) c.moved.ensures
+    follows_unlimited c.requires.0 c.requires.1 (omega (arith, c.most-highest.ensures.0, c.size.ensures.0, c.if-size-highest.true)) c.moved.ensures
 
 pub most-b-requires : goal.most-b-requires
 most-b-requires c =

@@ -4,10 +4,10 @@ use lib.ListN.{length-set}
 use Rattle.search.proofs.ways.keyed.Goals as goal
 
 pub ways_of-requires : goal.ways_of-requires
-ways_of-requires c = let p = c.requires in (p.0, c.in-Some.ensures.steps.1.below 12 c.loop-s.invariant.0, p.2, p.3, p.4, p.5)
+ways_of-requires c = let p = c.requires in (p.0, c.in-Some.ensures.steps.1.below 12 c.loop-s.invariant.0, p.2, p.3)
 
 pub bounds-weight-s : goal.bounds-weight-s
-bounds-weight-s c = omega (arith, c.in-Some.ensures.steps.1.below 12 c.loop-s.invariant.0, c.requires.6)
+bounds-weight-s c = omega (arith, c.in-Some.ensures.steps.1.below 12 c.loop-s.invariant.0, c.requires.4)
 
 pub bounds-keys-s : goal.bounds-keys-s
 bounds-keys-s c = omega (arith, c.in-Some.ensures.steps.1.below 12 c.loop-s.invariant.0, c.loop-s.invariant.1)
