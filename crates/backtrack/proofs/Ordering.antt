@@ -4,46 +4,16 @@ use mathlib.Core.List.{List}
 use mathlib.Core.Path.{◌≡◌, sym, subst, ◌∙◌}
 use Prim.Native.Nat.{ℕ, ◌≤◌, ◌<◌}
 use native.Mathlib.Omega.{arith}
-use lib.Dec.{eqb, ltb}
-use lib.ListN.{length, get_or}
-use borrow.Author.Tests.{eqb-true, eqb-false, ltb-true, lt-ltb}
+use lib.ListN.{length}
 use Rattle.bits.specs.Word.{has_bit}
-use Rattle.bits.specs.Set.{FirstAndRest, Removed, Lowest, Mask}
-use Rattle.bits.proofs.Below.{by_cases, true-false}
-use Rattle.bits.proofs.SetLaws.{zero_empty, removed_other, removed_was, part_le}
+use Rattle.bits.specs.Set.{FirstAndRest, Removed, Lowest}
+use Rattle.bits.proofs.Below.{by_cases}
+use Rattle.bits.proofs.SetLaws.{removed_other, removed_was, part_le}
 use Rattle.bits.proofs.Masks.{bits_below}
 use Rattle.workflow.specs.Problem.{Job}
-use Rattle.backtrack.specs.Order.{Single, Several}
+use Rattle.backtrack.specs.Order.{Several}
 use Rattle.backtrack.specs.Trial.{Alone, Others}
 use Rattle.backtrack.proofs.Extending.{Before, NextPerson, Untried}
-
--- nobody, or nobody but the first
-pub single_none : (domain : ℕ) → domain ≡ 0 → Single domain
-single_none domain e p p' h = true-false h (zero_empty domain e p)
-
-pub single_first : {domain p rest : ℕ} → Removed domain p rest → rest ≡ 0 → Single domain
-single_first {domain} {p} {rest} gone e x y h k = is x h ∙ sym (is y k)
-  where
-    is : (x : ℕ) → has_bit domain x ≡ true → x ≡ p
-    is x h =
-        by_cases (eqb x p)
-        (λ t. eqb-true x p t)
-        (λ f. true-false (removed_other gone x (eqb-false x p f) ∙ h) (zero_empty rest e x))
-
--- the steps found so far are of the steps, and those that are not found have one person at most
-module _ {steps : ℕ} {dom : List ℕ} where
-  pub several_start : Several steps dom steps
-  several_start = record { part = λ s h. h; one = λ s h k. true-false h k }
-
-  pub several_drop : {found s found' : ℕ} → Several steps dom found → Removed found s found' → Single (get_or dom s 0) → Several steps dom found'
-  several_drop {s = s} w out one =
-      record {
-        part = λ t h. w.part t (removed_was out t h);
-        one = λ t h k.
-            by_cases (eqb t s)
-            (λ e. rw (eqb-true t s e) one)
-            (λ e. w.one t h (sym (removed_other out t (eqb-false t s e)) ∙ k));
-      }
 
 -- the steps with several people are no more than the steps
 pub several_le : {steps : ℕ} {dom : List ℕ} {r : ℕ} → Several steps dom r → r ≤ steps
@@ -66,14 +36,6 @@ several_alone {rest = rest} a w =
 -- no step is found
 pub several_none : {steps rest : ℕ} {dom : List ℕ} {r : ℕ} → Alone steps rest dom → Several rest dom r → r ≡ 0 → Alone steps 0 dom
 several_none {steps} {dom = dom} a w e = subst (λ (x : ℕ). Alone steps x dom) e (several_alone a w)
-
--- where no step is left out nothing is asked
-pub all_alone : {steps rest : ℕ} {dom : List ℕ} → Mask (λ s. ltb s steps) rest → Alone steps rest dom
-all_alone {steps} all =
-    record {
-      below = λ t h. ltb-true t steps (sym (all.each t) ∙ h);
-      one = λ t p p' l o. true-false (all.each t ∙ lt-ltb t steps l) o;
-    }
 
 -- without step s
 pub alone_others : {steps rest s rest' : ℕ} {dom : List ℕ} → Alone steps rest dom → Removed rest s rest' → Others steps rest' s dom

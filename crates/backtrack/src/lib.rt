@@ -71,10 +71,10 @@ fn extend(tables: &Tables, ordered: bool, rest: u16, dom: &Domains, effort: &mut
         if *effort == 0 {
             return Err(Tired);
         }
-        *effort = *effort - 1;
+        *effort -= 1;
         let choice = Choice {
             step: s,
-            person: person,
+            person,
             rest: others,
         };
         if let Some(plan) = branch(tables, ordered, choice, dom, effort)? {

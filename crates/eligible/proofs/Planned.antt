@@ -43,9 +43,9 @@ module _ (crowd plan : List ℕ) (r : ℕ) {scope : ℕ} (its_scope : scope ≡ 
       )
 
   -- there are as many names as the count of the rule
-  pub plan_counted : {labels n : ℕ} → ((m : ℕ) (S : ℕ → Bool) (c : ℕ → ℕ) → LabelsOf m S c labels → n ≡ distinct m S c)
+  pub walked_all : {labels n : ℕ} → ((m : ℕ) (S : ℕ → Bool) (c : ℕ → ℕ) → LabelsOf m S c labels → n ≡ distinct m S c)
       → ForJobs crowd r (λ j. OfPeople j (plan_in plan) → LabelsOf j.steps (has_bit scope) (named r plan j) labels → n ≡ class_count j (unpacked r) (plan_in plan))
-  plan_counted {labels} counted size rule at within gathered =
+  walked_all {labels} counted size rule at within gathered =
       counted size.steps (has_bit (scope_in r)) _ (rw its_scope at gathered)
       ∙ uses_distinct size.people (class_in crowd (level_in r)) size.steps (has_bit (scope_in r)) (plan_in plan) (λ s l h. within s l)
 

@@ -11,17 +11,17 @@ use Rattle.bits.specs.Below.{count}
 use Rattle.bits.specs.Says.{Says}
 use Rattle.bits.specs.Word.{has_bit}
 use Rattle.bits.specs.Set.{FirstAndRest}
-use Rattle.bits.proofs.Below.{by_cases, true-false}
+use Rattle.bits.proofs.Below.{by_cases}
 use Rattle.bits.proofs.Masks.{taken_was, bits_below}
 use Rattle.bits.proofs.Says.{says_of, says_true, says_false}
-use Rattle.bits.proofs.SetLaws.{and-bit, and-bit_left, and-bit_right, has_below, zero_empty, removed_other}
+use Rattle.bits.proofs.SetLaws.{and-bit, and-bit_left, and-bit_right, has_below, removed_other}
 use Rattle.workflow.specs.Problem.{distinct, largest_load}
 use Rattle.pattern.proofs.Same.{distinct_scope_cong, load_scope_cong}
 use Rattle.pattern.specs.Rule.{scope_in, level_in, load_in, unpacked}
 use Rattle.pattern.specs.Tables.{label_in, rule_in}
 use Rattle.pattern.specs.Eligible.{group_count, group_load, open_count, CanBeMet, Possible}
 use Rattle.eligible.specs.Labels.{LabelsReady}
-use Rattle.eligible.specs.Rules.{ForSteps, Among}
+use Rattle.eligible.specs.Rules.{ForSteps}
 
 -- labels of placed steps are there for a part of them
 pub ready_part : (scope : ℕ) {placed level : ℕ} {label : List ℕ} → LabelsReady placed level label → LabelsReady (bit_and scope placed) level label
@@ -91,9 +91,6 @@ pub record Tested (among rest : ℕ) (rule : List ℕ) (placed : ℕ) (label : L
       (λ steps. (i : ℕ) → has_bit among i ≡ true → has_bit rest i ≡ false → Possible steps (has_bit placed) (label_in label) (rule_in rule i))
 
 module _ {among : ℕ} {rule : List ℕ} {placed : ℕ} {label : List ℕ} where
-  pub tested_none : Tested among among rule placed label
-  tested_none = record { part = λ i h. h; possible = λ steps within i h n. true-false h n }
-
   module _ {rest i rest' : ℕ} (w : Tested among rest rule placed label) (first : FirstAndRest rest i rest') (r : Bool)
       (says : (steps : ℕ) → scope_in (get_or rule i 0) < 2 ^ steps → Says r (Possible steps (has_bit placed) (label_in label) (rule_in rule i))) where
     -- the rule of the turn is one of the mask
@@ -110,9 +107,3 @@ module _ {among : ℕ} {rule : List ℕ} {placed : ℕ} {label : List ℕ} where
               (says_true r _ (says steps (within i chosen)) e))
               (λ t. w.possible steps within k h (sym (removed_other first.removed k (eqb-false k i t)) ∙ n));
         }
-
-    pub tested_fails : r ≡ false → ForSteps among rule (λ steps. Among steps among rule placed label → ⊥)
-    tested_fails e steps within all = says_false r _ (says steps (within i chosen)) e (all i chosen)
-
-  pub tested_all : {rest : ℕ} → Tested among rest rule placed label → rest ≡ 0 → ForSteps among rule (λ steps. Among steps among rule placed label)
-  tested_all {rest} w e steps within i h = w.possible steps within i h (zero_empty rest e i)

@@ -9,7 +9,7 @@ use native.Mathlib.Nat.{one-mul}
 use native.Mathlib.Numerals.{add-one}
 use lib.Dec.{eqb, ltb, lit<}
 use lib.ListN.{length, get_or, set, length-set}
-use lib.Pow.{pow_pos, shl_exact}
+use lib.Pow.{shl_exact}
 use lib.Seq.{get_or-set_same, get_or-set_other}
 use borrow.Author.Tests.{eqb-true, eqb-false, ltb-true, lt-ltb}
 use Rattle.bits.specs.Word.{has_bit}
@@ -33,9 +33,6 @@ use Rattle.first.proofs.Narrow.{Narrowed, narrowed_valid, other_standing, fixed_
 -- one bit of a word
 bit_word : (n : ℕ) → n < 64 → 1 * 2 ^ n % 18446744073709551616 ≡ 2 ^ n
 bit_word n l = shl_exact 1 n 64 (lit< tt) (omega arith) ∙ one-mul (2 ^ n)
-
-pub bit-word_pos : (n : ℕ) → n < 64 → 0 < 1 * 2 ^ n % 18446744073709551616
-bit-word_pos n l = rw (bit_word n l) (pow_pos n)
 
 -- the people before n of a mask
 pub before_bit : (x n : ℕ) → n < 64 → (p : ℕ) → has_bit (x % (1 * 2 ^ n % 18446744073709551616)) p ≡ ltb p n && has_bit x p

@@ -46,6 +46,7 @@ fn from_any(tables: &Tables, may: &Domains) -> Option<Plan>
     let mut left = *may;
     let steps = tables.size.steps;
     for s in 0..steps {
+        // By a name of its own: a call's result is not laid in an array that the call reads.
         let settled = settle(tables, s, &mut left, &mut weight, plan);
         plan = settled;
     }

@@ -33,9 +33,6 @@ use Rattle.narrow.proofs.Restricting.{fewer_same, fewer_then}
 
 -- ---- one revision after another
 
-pub revised_none : {j : Job} {r : Rule} {dom : List ℕ} → length dom ≡ 12 → Revised j r dom dom false
-revised_none {dom = dom} e = record { fewer = fewer_same dom e; kept = λ t π met takes. takes; lost = λ t. true-false t refl }
-
 -- where the first has not failed, the two are one
 pub revised_then : {j : Job} {r : Rule} {dom dom' dom'' : List ℕ} {failed : Bool} → Revised j r dom dom' false → Revised j r dom' dom'' failed
     → Revised j r dom dom'' failed
@@ -173,15 +170,7 @@ module _ {j : Job} {r mask scope : ℕ} {dom : List ℕ} {held : ℕ} (w : Withi
 -- ---- class after class
 
 module _ {crowd : List ℕ} {r : ℕ} {dom : List ℕ} where
-  pub closing_none : {scope : ℕ} → scope ≡ scope_in r → length dom ≡ 12 → Closing crowd r dom dom scope 0
-  closing_none is e =
-      record { rest = λ s h. subst (λ (m : ℕ). has_bit m s ≡ true) is h; small = omega arith; revised = λ size rule at. revised_none e }
-
   module _ {dom' : List ℕ} {left changed s left' : ℕ} (w : Closing crowd r dom dom' left changed) (t : FirstAndRest left s left') where
-    -- the step has no class yet
-    pub closing_skip : Closing crowd r dom dom' left' changed
-    closing_skip = record { rest = λ u h. w.rest u (taken_was t u h); small = w.small; revised = w.revised }
-
     -- its class is looked at
     module _ {level mask : ℕ} (is : level ≡ level_in r) (shared : ForClasses crowd level (λ people c. Shared people c (get_or dom' s 0) mask))
         (some : mask ≡ 0 → ⊥) {dom'' : List ℕ} where

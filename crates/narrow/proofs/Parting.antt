@@ -30,19 +30,6 @@ pub record Parting (people : ℕ) (c : ℕ → ℕ) (steps used : ℕ) (dom : Li
   pub rest : (s : ℕ) → has_bit left s ≡ true → has_bit steps s ≡ true
 
 module _ {people : ℕ} {c : ℕ → ℕ} {steps used : ℕ} {dom : List ℕ} where
-  pub parting_none : Parting people c steps used dom steps used 0
-  parting_none =
-      record {
-        apart = record {
-          among = λ s h. true-false h (empty_lacks s);
-          keeps = λ p h. h;
-          reaches = λ s h. true-false h (empty_lacks s);
-          new = λ s p h. true-false h (empty_lacks s);
-          differ = λ s t p q h. true-false h (empty_lacks s);
-        };
-        rest = λ s h. h;
-      }
-
   module _ {left all heads s left' : ℕ} (w : Parting people c steps used dom left all heads) (taken : FirstAndRest left s left') where
     -- the step is passed
     pub parting_skip : Parting people c steps used dom left' all heads

@@ -1,21 +1,17 @@
 -- Rule after rule: no valid plan is lost. Assumes nothing.
 use mathlib.Core.Bool.{true, false}
 use mathlib.Core.List.{List}
-use mathlib.Core.Path.{◌≡◌, refl}
+use mathlib.Core.Path.{refl}
 use Prim.Native.Nat.{ℕ, ◌<◌}
-use lib.ListN.{length}
 use Rattle.bits.proofs.Below.{true-false}
 use Rattle.workflow.specs.Problem.{Job, Plan, Valid}
 use Rattle.pattern.specs.Tables.{may_in}
 use Rattle.narrow.specs.Domains.{Takes, Revised, Narrowed}
-use Rattle.narrow.proofs.Restricting.{fewer_same, fewer_then}
+use Rattle.narrow.proofs.Restricting.{fewer_then}
 
 -- a valid plan takes people of the domains
 takes_valid : (j : Job) (dom : List ℕ) (π : Plan) → Valid j (may_in dom) π → Takes j.steps j.people dom π
 takes_valid j dom π v = record { within = v.within; among = v.authorised }
-
-pub narrowed_none : {j : Job} {dom : List ℕ} → length dom ≡ 12 → Narrowed j dom dom true
-narrowed_none {dom = dom} e = record { fewer = fewer_same dom e; kept = λ t π v. v; lost = λ t. true-false refl t }
 
 module _ {j : Job} {dom dom' dom'' : List ℕ} (i : ℕ) (below : i < j.rules) (w : Narrowed j dom dom' true) where
   pub narrowed_more : Revised j (j.rule i) dom' dom'' false → Narrowed j dom dom'' true

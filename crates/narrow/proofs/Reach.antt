@@ -18,13 +18,6 @@ use Rattle.narrow.specs.Fixing.{Reaching}
 use Rattle.narrow.specs.Narrowing.{Common}
 use Rattle.bits.proofs.Masks.{taken_was, xor_all, all_has, or_left, or_right}
 
-module _ {people : ℕ} {c : ℕ → ℕ} {domain : ℕ} where
-  pub reaching_none : Reaching people c domain domain 0
-  reaching_none = record { has = λ p p' l m h k e. true-false h k }
-
-  pub reaching_all : {left found : ℕ} → left ≡ 0 → Reaching people c domain left found → Reaching people c domain 0 found
-  reaching_all {found = found} z w = subst (λ (x : ℕ). Reaching people c domain x found) z w
-
 module _ {people : ℕ} {c : ℕ → ℕ} (g : Grouped people c) {left p rest : ℕ} (t : FirstAndRest left p rest) where
   -- somebody who is no longer left is of the class of p
   pub of_crowd : (u : ℕ) → u < people → has_bit left u ≡ true → has_bit (bit_and rest (bit_xor (c p) 18446744073709551615)) u ≡ false

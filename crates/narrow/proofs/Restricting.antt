@@ -1,7 +1,7 @@
 -- Leaving some steps only some people, step by step. Assumes nothing.
-use mathlib.Core.Bool.{true, false}
+use mathlib.Core.Bool.{true}
 use mathlib.Core.List.{List}
-use mathlib.Core.Path.{◌≡◌, refl, sym, subst, ap, ◌∙◌}
+use mathlib.Core.Path.{◌≡◌, sym, subst, ap, ◌∙◌}
 use Prim.Native.Nat.{ℕ, ◌<◌}
 use native.Mathlib.Omega.{arith}
 use lib.Bits.{bit_and}
@@ -29,30 +29,7 @@ pub fewer_then : (dom dom' dom'' : List ℕ) → Fewer dom dom' → Fewer dom' d
 fewer_then dom dom' dom'' a b = record { sized = b.sized; part = λ s p h. a.part s p (b.part s p h) }
 
 module _ {steps people : ℕ} {dom : List ℕ} where
-  pub restricting_none : length dom ≡ 12 → Restricting steps people dom dom steps 0
-  restricting_none e =
-      record {
-        fewer = fewer_same dom e;
-        keeps = λ s p h k. h;
-        rest = λ s h. h;
-        among = λ s h. true-false h (empty_lacks s);
-      }
-
-  restricting_stop : {dom' : List ℕ} {left changed : ℕ} → Restricting steps people dom dom' left changed → Restricting steps people dom dom' 0 changed
-  restricting_stop w =
-      record { fewer = w.fewer; keeps = w.keeps; rest = λ u h. true-false h (empty_lacks u); among = w.among }
-
   module _ {dom' : List ℕ} {left changed s left' : ℕ} (w : Restricting steps people dom dom' left changed) (t : FirstAndRest left s left') where
-    -- the step has such people alone
-    pub restricting_skip : Restricting steps people dom dom' left' changed
-    restricting_skip =
-        record {
-          fewer = w.fewer;
-          keeps = w.keeps;
-          rest = λ u h. w.rest u (taken_was t u h);
-          among = w.among;
-        }
-
     -- it has others too
     pub restricting_take : s < 12 → {changed' : ℕ} → Added changed s changed'
         → Restricting steps people dom (set dom' s (bit_and (get_or dom' s 0) people)) left' changed'
@@ -107,9 +84,6 @@ module _ {steps people : ℕ} {dom : List ℕ} where
                 (zero_empty (bit_and (get_or dom' s 0) people) e p),
           );
         }
-
-  pub restricted_all : {dom' : List ℕ} {left changed : ℕ} → Restricting steps people dom dom' left changed → Restricted steps people dom dom' false changed
-  restricted_all w = record { done = restricting_stop w; lost = λ t. true-false t refl }
 
   pub changed_small : {dom' : List ℕ} (r : Result ℕ Unmet) → Restricted steps people dom dom' (is_err r) (result_unwrap_or r 0) → steps < 4096
       → IfOk r (λ changed. changed < 4096)

@@ -3,15 +3,10 @@ use mathlib.Core.Bool.{not}
 use mathlib.Core.Path.{ap}
 use borrow.Author.Tests.{not-true, not-false}
 use Rattle.backtrack.proofs.Extending.{narrowed_trial, narrowed_lost}
-use Rattle.backtrack.proofs.Ordering.{all_alone}
 use Rattle.backtrack.proofs.attempt.Goals as goal
 
 pub returns-then-not-propagate : goal.returns-then-not-propagate
 returns-then-not-propagate c = narrowed_lost _ c.propagate.ensures (not-true _ (ap not c.if-not-propagate.true))
-
-pub extend-requires : goal.extend-requires
-extend-requires c =
-    (c.requires.0, c.propagate.ensures.fewer.sized, all_alone c.below-steps.ensures)
 
 pub returns : goal.returns
 returns c =

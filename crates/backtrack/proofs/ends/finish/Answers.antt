@@ -10,9 +10,6 @@ use Rattle.backtrack.proofs.ends.finish.Goals as goal
 pub returns-in_default : goal.returns-in_default
 returns-in_default c = trial_tired _ _ _ _ refl
 
-pub meets_all-requires : goal.meets_all-requires
-meets_all-requires c = (c.requires.0, c.in-Some.ensures.sized)
-
 pub returns-then-not-meets_all : goal.returns-then-not-meets_all
 returns-then-not-meets_all c =
     let m = c.meets_all in

@@ -7,7 +7,7 @@ use Rattle.bits.proofs.SetLaws.{has_below}
 use Rattle.pattern.specs.Number.{first_use}
 use Rattle.pattern.specs.Tables.{job_in, plan_in}
 use Rattle.eligible.specs.Classes.{ForClasses, OneLevel}
-use Rattle.eligible.proofs.Planned.{named, its_steps, name_at, plan_counted}
+use Rattle.eligible.proofs.Planned.{named, its_steps, name_at, walked_all}
 use Rattle.eligible.proofs.plan.plan_count.Goals as goal
 
 pub returns : goal.returns
@@ -16,7 +16,7 @@ returns c =
     let is = c.scope-scope.ensures in (
       c.class_count.ensures.0,
       λ size rule at within.
-          plan_counted a.crowd.now a.plan.now a.r is c.class_count.ensures.1 size rule at within
+          walked_all a.crowd.now a.plan.now a.r is c.class_count.ensures.1 size rule at within
           (c.label_set-labels.ensures size.steps (named a.r a.plan.now (job_in size a.crowd.now rule)) (its_steps a.crowd.now a.plan.now a.r is at)
           (λ s v h p.
           let name : ForClasses a.crowd.now c.level-level.result (λ people k. plan_in a.plan.now s < people → v ≡ first_use people k (plan_in a.plan.now s)) = search rules in
