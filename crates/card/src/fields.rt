@@ -104,7 +104,7 @@ fn step_ok(s: &[u8], card: usize) -> bool
 }
 
 // Whether a limit is one that its kind of rule may have, with `size` steps in scope.
-// A rule's kind stays the sheet's byte: what is proved of jobs and rules takes in every byte, and an enum would be made and taken apart at each place.
+// The kind stays the sheet's byte here, since a kind that is refused has no name; where a rule is looked at, it gets one.
 #[tactic(auto, unfolding(crate::specs::Fields::limit_ok))]
 fn limit_ok(kind: usize, limit: usize, size: usize) -> bool
     ensures { result ≡ limit_ok kind limit size }

@@ -75,6 +75,7 @@ fn class_again(below: &PersonWords, above: &PersonWords, k: usize, firsts: &mut 
 }
 
 // The first of `count` people whose class stood earlier with another above.
+// It stays apart from `tag_clash`: what each keeps of its slots, and what it knows by them, differs, so a trait over both would be longer than they are.
 fn level_clash(below: &PersonWords, above: &PersonWords, count: usize) -> Option<usize>
     requires { (count ≤ 64) × (length below.now ≡ 64) × (length above.now ≡ 64) }
     ensures { result ≡ place_below count (first_clash count (moved_at below.now above.now)) }
