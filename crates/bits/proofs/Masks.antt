@@ -102,14 +102,6 @@ mask_in m i h = sym (m.each i) ∙ h
 
 -- ---- sifting
 
-pub sifted_none : (all : ℕ) (test : ℕ → Bool) → Sifted all test all 0
-sifted_none all test =
-    record {
-      part = λ i h. h;
-      done = λ i h. empty_lacks i ∙ ap (λ (b : Bool). b && test i) (sym h);
-      left = λ i h. empty_lacks i;
-    }
-
 module _ {all : ℕ} {test : ℕ → Bool} {rest r i rest' : ℕ} where
   -- one element more has been tested: it is in the mask where the test says so, and nothing else has changed
   sifted_next : {r' : ℕ} → Sifted all test rest r → FirstAndRest rest i rest' → has_bit r' i ≡ test i → ((k : ℕ) → (k ≡ i → ⊥) → has_bit r' k ≡ has_bit r k)
@@ -151,17 +143,6 @@ one_shifted_pos w i l = subst (λ (x : ℕ). 1 ≤ x) (sym (one_shifted w i l)) 
 -- ---- the least key
 
 module _ (key : List ℕ) (m : ℕ) where
-  pub least_start : {i left : ℕ} → FirstAndRest m i left → LeastKey key m left i
-  least_start {i} {left} first =
-      record {
-        has = first.lowest.has;
-        part = taken_was first;
-        least = λ j h n.
-            by_cases (eqb j i)
-            (λ t. subst (λ (k : ℕ). get_or key i 0 ≤ get_or key k 0) (sym (eqb-true j i t)) (omega arith))
-            (λ t. true-false (removed_other first.removed j (eqb-false j i t) ∙ h) n);
-      }
-
   module _ {left best i left' : ℕ} (w : LeastKey key m left best) (first : FirstAndRest left i left') where
     -- the least of those passed and of i
     least_more : (k : ℕ) → has_bit m k ≡ true → get_or key k 0 ≤ get_or key best 0 → get_or key k 0 ≤ get_or key i 0 → LeastKey key m left' k

@@ -34,6 +34,3 @@ any-zero f = refl
 pub any_more : (f : ℕ → Bool) (k : ℕ) (b t : Bool) → b ≡ any k f → t ≡ f k → (b || t) ≡ any (k + 1) f
 unfolding any
 any_more f k b t e d = rw (add-one, e, d)
-
-pub any-all : (f : ℕ → Bool) (n k : ℕ) (b : Bool) → k ≤ n → n ≤ k → b ≡ any k f → b ≡ any n f
-any-all f n k b l m e = let d : k ≡ n = omega arith in subst (λ (x : ℕ). b ≡ any x f) d e

@@ -26,10 +26,6 @@ pub record Carrying (people steps : ℕ) (plan₀ plan : List ℕ) (s : ℕ) : T
   pub carried : (ρ : Plan) → ((t : ℕ) → s ≤ t → t < steps → ρ t ≡ 0) → plan_number people s ρ ≡ suc (plan_number people s (plan_of plan))
       → plan_number people steps ρ ≡ suc (plan_number people steps (plan_of plan₀))
 
-pub carrying_none : {people steps : ℕ} {plan : List ℕ} → length plan ≡ 12 → Carrying people steps plan plan steps
-carrying_none l =
-    record { within = omega arith; sized = l; kept = λ t b. refl; zeros = λ t a b. absurd (omega arith); lasts = λ t a b. absurd (omega arith); carried = λ ρ z e. e }
-
 module _ {people steps : ℕ} {plan₀ plan : List ℕ} {s : ℕ} (w : Carrying people steps plan₀ plan (suc s)) (few : steps ≤ 12)
     (gives : Gives people steps (plan_of plan₀)) where
   inside : s < length plan

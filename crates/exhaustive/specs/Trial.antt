@@ -5,7 +5,6 @@ use Rattle.sheet.specs.declared.SheetJob as sheet
 use Rattle.workflow.specs.Problem.{Job, May, Plan, met}
 use Rattle.workflow.specs.First.{Found, found, nothing, first_plan, plan_of, found_in}
 use Rattle.instance.specs.Figures.{Staffed, RulesStaffed}
-
 use Rattle.exhaustive.specs.Order.{plan_number}
 
 -- a plan that can be looked at: for each step, and for each that a rule can name, it has a place in the table of people

@@ -10,7 +10,6 @@ use Rattle.workflow.proofs.First.{first_plan_given, no_valid_plan}
 use Rattle.pattern.specs.Tables.{may_in, plan_in}
 use Rattle.backtrack.specs.Trial.{Trial}
 
-
 pub first_tried : (j : Job) (may : List ℕ) (o : Option (List ℕ)) → Trial true j may (Ok o) → first_plan j (may_in may) ≡ found_in j.steps o
 unfolding Trial
 first_tried j may None t = no_valid_plan j (may_in may) (λ π v. t (π, v))

@@ -1,5 +1,6 @@
 -- The engine that tries every plan: the same answers, all plans in order, the first valid one taken, and what is wrong with the others. Assumes nothing.
-use mathlib.Core.Bool.{true, false, not}
+use mathlib.Core.Bool.{not}
+use Rattle.std.specs.Prelude.{Some, None}
 use mathlib.Core.Path.{sym, ap, ◌∙◌}
 use Prim.Native.Nat.{suc}
 use native.Mathlib.Omega.{arith}
@@ -31,17 +32,17 @@ all_plans people steps =
     }
 
 pub takes_first_valid : TakesFirstValid
-takes_first_valid j may true plan tried t =
+takes_first_valid j may (Some plan) tried t =
     let v = tried_first t in (
       v,
       λ few. let n = number_below j.people j.steps (plan_of plan) v.valid.within in
           tried_found t ∙ sym (word_small (suc (plan_number j.people j.steps (plan_of plan))) (omega (arith, n, few))),
     )
-takes_first_valid j may false plan tried t = (first_plan_nothing j may t.first, λ few. tried_none t ∙ sym (word_small _ few))
+takes_first_valid j may None tried t = (first_plan_nothing j may t.first, λ few. tried_none t ∙ sym (word_small _ few))
 
 pub tried_printed : TriedPrinted
 unfolding tried_read
-tried_printed s people steps rules e few won plan tried t =
+tried_printed s people steps rules e few plan tried t =
     let j = instance_in s people steps rules in
     let may = may_do s people steps rules in
     t.count ∙ sym (word_small (plans_tried j (first_plan j may)) (omega (arith, few, plans_tried_most j may))) ∙ sym (ap (tried_read s) e)

@@ -228,6 +228,9 @@ module _ (s s' : List ℕ) (w : SameCards s s') where
         ∙ ap (λ (n : ℕ). class_columns s' people n ++ zeros (class_words - n * 64)) two in
         λ t.
         record {
+          people = length people;
+          steps = length steps;
+          rules = length rules;
           levels = two t + 1;
           person_tag = table 64 (λ c. tag_same c t) people;
           step_tag = table 12 (λ c. tag_same c t) steps;

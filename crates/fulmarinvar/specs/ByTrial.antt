@@ -1,7 +1,7 @@
 -- Ask 3 of paper 02, the engine that tries every plan: "A shop of five wants a planner whose working they can follow on paper." What it does and
 -- what it shows, in the paper's words. proofs/ByTrial.antt proves it from the contracts of the two calls (CrewPromise) and of
 -- exhaustive::try_every (TriedEvery). Assumes nothing.
-use Rattle.std.specs.Prelude.{Bool, true, false, List, ◌≡◌, ℕ, suc, ◌^◌, ◌<◌, length}
+use Rattle.std.specs.Prelude.{Option, Some, None, true, false, List, ◌≡◌, ℕ, suc, ◌^◌, ◌<◌, length}
 use Rattle.sheet.specs.Read.{Read, job, fault, read_sheet}
 use Rattle.remaining.specs.Remaining.{steps_left}
 use Rattle.workflow.specs.Problem.{Job, May, Plan, OfPeople, Met, Valid}
@@ -43,19 +43,19 @@ AllPlans = (people steps : ℕ) → PlansInOrder people steps
 -- ---- "and takes the first valid one"
 
 -- the plan taken is valid, and none before it is; where none is taken, none is valid
-abbrev pub Takes : Bool → Job → May → List ℕ → Type 0
-Takes true j may plan = FirstValid j may (plan_of plan)
-Takes false j may plan = (σ : Plan) → Valid j may σ → ⊥
+abbrev pub Takes : Job → May → Option (List ℕ) → Type 0
+Takes j may (Some plan) = FirstValid j may (plan_of plan)
+Takes j may None = (σ : Plan) → Valid j may σ → ⊥
 
 -- and it is the last that was tried, or all were
-abbrev pub LastTried : Bool → Job → List ℕ → ℕ → Type 0
-LastTried true j plan tried = tried ≡ suc (plan_number j.people j.steps (plan_of plan))
-LastTried false j plan tried = tried ≡ j.people ^ j.steps
+abbrev pub LastTried : Job → Option (List ℕ) → ℕ → Type 0
+LastTried j (Some plan) tried = tried ≡ suc (plan_number j.people j.steps (plan_of plan))
+LastTried j None tried = tried ≡ j.people ^ j.steps
 
 -- of every job; the count where a word of 64 bits can count the plans
 abbrev pub TakesFirstValid : Type 0
-TakesFirstValid = (j : Job) (may : May) (won : Bool) (plan : List ℕ) (tried : ℕ) → TriedEvery j may won plan tried
-    → Takes won j may plan × (j.people ^ j.steps < 2 ^ 64 → LastTried won j plan tried)
+TakesFirstValid = (j : Job) (may : May) (plan : Option (List ℕ)) (tried : ℕ) → TriedEvery j may plan tried
+    → Takes j may plan × (j.people ^ j.steps < 2 ^ 64 → LastTried j plan tried)
 
 -- ---- how many plans are tried, which the program prints first
 
@@ -71,7 +71,7 @@ plans_tried_of s = tried_read s (read_sheet s)
 -- what the program is given to print is that number
 abbrev pub TriedPrinted : Type 0
 TriedPrinted = (s people steps rules : List ℕ) → read_sheet s ≡ job people steps rules → length people ^ length (steps_left s steps) < 2 ^ 64
-    → (won : Bool) (plan : List ℕ) (tried : ℕ) → TriedEvery (instance_in s people steps rules) (may_do s people steps rules) won plan tried
+    → (plan : Option (List ℕ)) (tried : ℕ) → TriedEvery (instance_in s people steps rules) (may_do s people steps rules) plan tried
     → tried ≡ plans_tried_of s
 
 -- ---- what the program is given to print of a plan that was tried

@@ -18,10 +18,6 @@ use Rattle.levels.specs.Trims.{KeptLevels, OldLevels, Rows, Renumbered}
 abbrev pub row_entry : List ℕ → List ℕ → ℕ → ℕ
 row_entry old class x = get_or class ((get_or old (x / 64 + 1) 0 - 1) * 64 + x % 64) 0
 
--- the old level of an entry
-pub row_from : {levels n : ℕ} {old : List ℕ} → OldLevels levels n old → (x : ℕ) → x < n * 64 → 1 ≤ get_or old (x / 64 + 1) 0
-row_from w x l = w.from (x / 64 + 1) (omega arith) (omega arith)
-
 pub row_to : {levels n : ℕ} {old : List ℕ} → OldLevels levels n old → (x : ℕ) → x < n * 64 → get_or old (x / 64 + 1) 0 ≤ levels
 row_to w x l = w.to (x / 64 + 1) (omega arith) (omega arith)
 
@@ -55,10 +51,6 @@ renumbered_more n x rule new rule' l p w =
   where
     Is : ℕ → ℕ → Type 0
     Is i r = Packed (get_or new (level_in (get_or rule i 0)) 0 % 16) (least_in (get_or rule i 0)) (most_in (get_or rule i 0)) (load_in (get_or rule i 0)) (scope_in (get_or rule i 0)) r
-
--- the levels that are kept are levels in order
-pub old_levels : {levels marks n : ℕ} {old new : List ℕ} → KeptLevels levels marks n old new → OldLevels levels n old
-old_levels w = record { sized = w.olds; few = w.few; from = w.keeps.from; to = w.keeps.to; ordered = w.keeps.ordered }
 
 -- where all levels are kept, each has its number
 module _ {n : ℕ} {old : List ℕ} (w : OldLevels n n old) where

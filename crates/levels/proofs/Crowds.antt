@@ -23,9 +23,6 @@ use Rattle.pattern.specs.Nesting.{ByNumber}
 use Rattle.levels.specs.Tabled.{ByPerson, Gathered}
 
 module _ (class numbered : List ℕ) where
-  pub person_none : (crowd : List ℕ) → length crowd ≡ class_entries → ByPerson class numbered 0 crowd
-  person_none crowd l = record { sized = l; each = λ y h. absurd (not-suc-le-zero h) }
-
   pub person_more : (x : ℕ) (crowd : List ℕ) → x < class_entries → ByPerson class numbered x crowd
       → ByPerson class numbered (x + 1) (set crowd x (get_or numbered (x - x % 64 + get_or class x 0 % 64) 0))
   person_more x crowd l w =
@@ -65,9 +62,6 @@ pub record Completing (people last : ℕ) (class : List ℕ) (n : ℕ) (crowd : 
   pub none : (p p' : ℕ) → p < n → has_bit (get_or crowd (last * 64 + p) 0) p' ≡ true → p' ≡ p
 
 module _ {people last : ℕ} {class crowd : List ℕ} (few : people ≤ 64) where
-  pub completing_none : Gathered people last class crowd → Completing people last class 0 crowd
-  completing_none g = record { above = g; own = λ p h. absurd (not-suc-le-zero h); none = λ p p' h. absurd (not-suc-le-zero h) }
-
   pub completing_more : (n word : ℕ) → n < people → last < most_levels → Completing people last class n crowd → Added 0 n word
       → Completing people last class (n + 1) (set crowd (last * 64 + n) word)
   completing_more n word l deep w joined =

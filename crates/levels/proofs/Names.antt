@@ -27,14 +27,6 @@ pub record Giving (i rest : ℕ) (rule of : List ℕ) : Type 0 where
   pub part : (s : ℕ) → has_bit rest s ≡ true → has_bit (scope_in (get_or rule i 0)) s ≡ true
 
 module _ (rule : List ℕ) where
-  pub naming_none : Naming 0 rule (replicate {A = ℕ} 12 0)
-  naming_none =
-      record {
-        sized = length-replicate {A = ℕ} 12 0;
-        has = λ i s l. absurd (not-suc-le-zero l);
-        only = λ i s l h. true-false h (zero_empty (get_or (replicate {A = ℕ} 12 0) s 0) (get_or-replicate {A = ℕ} 12 s 0 0 l) i);
-      }
-
   pub giving_none : (i : ℕ) (of : List ℕ) → scope_in (get_or rule i 0) < 4096 → Naming i rule of → Giving i (scope_in (get_or rule i 0)) rule of
   giving_none i of small w =
       record {

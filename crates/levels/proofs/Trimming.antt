@@ -116,9 +116,6 @@ module _ (size : Size) (n marks : â„•) (class rule class' rule' old new : List â
   classed : Classed size' class' rule'
   classed = record { ruled = ruled; few_people = given.few_people; classes = rows.sized; refining = refining; numbers = numbers }
 
-  pub ruled_trimmed : Ruled size' rule'
-  ruled_trimmed = ruled
-
   pub table_trimmed : ClassTable size.people n class'
   table_trimmed = classed_table classed
 

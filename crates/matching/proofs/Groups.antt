@@ -17,9 +17,6 @@ use Rattle.matching.specs.State.{Placed, Unserved, Blocked, Stuck, Placement, Pa
 use Rattle.matching.proofs.Hall.{Inside, none_closed}
 use Rattle.matching.proofs.Laws.{equal_or_not}
 
-mask_below : (groups g : ℕ) → in_mask groups g ≡ true → g < 12
-mask_below groups g h = ltb-true g 12 (and_left (ltb g 12) (has_bit groups g) h)
-
 suits_below : (edges : List ℕ) (g c : ℕ) → suits edges g c ≡ true → c < 64
 suits_below edges g c h = ltb-true c 64 (and_left (ltb c 64) (has_bit (get_or edges g 0) c) h)
 
@@ -59,9 +56,6 @@ module _ {edges : List ℕ} {groups : ℕ} {at : List ℕ} {free rest rest' g : 
   idle =
       let m : class_at at g ≤ 64 = p.held.most g in
       let n : Placed at g → ⊥ = λ h. true-false first.lowest.has (p.only g h).1 in omega arith
-
-  pub next_ready : Unserved edges at free g
-  next_ready = record { held = p.held; below = mask_below groups g known; idle = idle }
 
   module _ {at' : List ℕ} {free' was now : ℕ} {b : Bool} (a : Placement edges at at' free free' was now g b) where
     -- it has got a class

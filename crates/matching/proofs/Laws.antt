@@ -18,12 +18,6 @@ use Rattle.bits.proofs.SetLaws.{removed_lacks, removed_was}
 use Rattle.matching.specs.Assignment.{suits, class_at}
 use Rattle.matching.specs.State.{Placed, Held, Holder, Unserved, Grown}
 
--- below the length the default does not matter
-pub get_d_default : (l : List ℕ) (i d e : ℕ) → i < length l → get_or l i d ≡ get_or l i e
-get_d_default [] i d e h = absurd (not-suc-le-zero h)
-get_d_default (x ∷ l) zero d e h = refl
-get_d_default (x ∷ l) (suc i) d e h = get_d_default l i d e (omega arith)
-
 pub equal_or_not : {P : Type 0} (a b : ℕ) → (a ≡ b → P) → ((a ≡ b → ⊥) → P) → P
 equal_or_not a b p q = by_cases (eqb a b) (λ t. p (eqb-true a b t)) (λ t. q (eqb-false a b t))
 

@@ -44,15 +44,6 @@ turn_free {edges} {at} {free} {free'} {was} {g} {class} r (l, low) gone =
 pub turn_crowded : {edges at : List ℕ} {free g : ℕ} → Unserved edges at free g → bit_and (mask edges g) free ≡ 0 → Crowded edges at free g
 turn_crowded {edges} {at} {free} {g} r e = record { ready = r; spent = λ c t. and_apart (mask edges g) free c e (suits-bit edges g c t) }
 
--- the search begins
-pub turn-first : {edges at : List ℕ} {free was g : ℕ} → Crowded edges at free g → Searching edges at at free free was was g
-turn-first r = record {
-  same = refl;
-  unspent = refl;
-  crowded = r;
-  tried = record { shrunk = λ c p. p; blocked = λ c p q. true-false p q };
-}
-
 -- no class of g's is left: the search has failed
 pub turn_last : {edges at at' : List ℕ} {free free' was now g : ℕ} → Searching edges at at' free free' was now g
     → bit_and (mask edges g) now ≡ 0 → Placement edges at at' free free' was now g false

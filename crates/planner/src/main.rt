@@ -5,17 +5,16 @@
 ghost use Rattle.std.specs.Prelude.{◌≡◌, ◌+◌, ◌<◌, ◌≤◌, length};
 ghost use Rattle.bits.specs.Word.{long_at};
 
-use answer::{number, returned};
+use answer::returned;
 use bits::byte_at;
 use bits::sizes::MOST_BYTES;
-use card::refusal::PLAN_FAULT;
+use card::refusal::Fault;
 use crew::plan_job;
 use instance::figures::rule_figures;
 use listing::input::read_full;
 use listing::{figure, text, write_plan, write_refusal, write_rules};
 use remaining::read_job;
 use resiliency::call::spare;
-use sheet::Reading;
 use std::io;
 
 const CAP: u32 = 2;
@@ -63,31 +62,21 @@ fn write_spare(rt: &impl Print, bytes: &[u8; SPARE]) -> io::Result<()>
 
 // The answer to a sheet: a refusal, or the plan, the spare count and the figure of each rule for the plan.
 fn write_answer(rt: &impl Print, sheet: &[u8]) -> io::Result<()> {
-    let read = read_job(sheet);
-    let reading = read.reading;
-    let Reading::Readable {
-        people,
-        steps,
-        rules,
-    } = reading
-    else {
-        return write_refusal(rt, number(reading));
+    let job = match read_job(sheet) {
+        Ok(job) => job,
+        Err(refusal) => return write_refusal(rt, returned(refusal)),
     };
-    let job = read.job;
-    let planned = plan_job(job, people, steps, rules);
-    if !planned.found {
-        return write_refusal(rt, returned(PLAN_FAULT, 0));
-    }
-    let plan = planned.plan;
+    let Some(plan) = plan_job(&job) else {
+        return write_refusal(rt, returned(Fault::Plan.on(0)));
+    };
     let mut away = [0u8; SPARE];
-    let spared = spare(sheet, &mut away, CAP);
-    if spared != 0 {
-        return write_refusal(rt, spared);
+    if let Err(refusal) = spare(sheet, &mut away, CAP) {
+        return write_refusal(rt, returned(refusal));
     }
-    write_plan(rt, job, steps, &plan)?;
+    write_plan(rt, &job, &plan)?;
     write_spare(rt, &away)?;
-    let figures = rule_figures(job, rules, &plan);
-    write_rules(rt, job, rules, &figures)
+    let figures = rule_figures(&job, &plan);
+    write_rules(rt, &job, &figures)
 }
 
 fn main(rt: HostRuntime) -> io::Result<()> {

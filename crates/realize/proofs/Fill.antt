@@ -49,18 +49,7 @@ module _ (heads : ℕ) (edges at : List ℕ) (a : Assignment (in_mask heads) (su
         apart = λ g k h i e. a.apart g k h i (given g h ∙ e ∙ sym (given k i));
       }
 
--- `cover` does not return its mask of the groups, so any other serves
-pub class_given : {may label nest reach : List ℕ} {t : Task} {at : List ℕ} {heads : ℕ} → Covering may label nest reach t (Some at)
-    → Mask (groups_in label t) heads → heads < 4096 → (g : ℕ) → has_bit heads g ≡ true → get_or at g 0 < 64
-class_given {at = at} {heads = heads} w mask few g h =
-    let a = covering_assigned w in
-    let i = and_of (ltb g 12) (has_bit w.heads g) (lt-ltb g 12 (has_below 12 heads g few h)) (mask_has w.mask g (mask_in mask g h)) in
-    subst (λ (x : ℕ). x < 64) (given w.heads a.0 at a.2 g i) (below w.heads a.0 at a.2 g i)
-
 -- ---- the loop over the groups
-
-pub sent_none : {may label nest reach : List ℕ} {t : Task} {heads : ℕ} {at plan : List ℕ} → Sent may label nest reach t heads heads at plan plan
-sent_none {t = t} {plan = plan} = record { kept = untouched t.steps plan; part = λ g h. h; done = λ g h n. true-false h n }
 
 -- the steps of one group get people, and those of the others keep theirs
 pub sent_next : {may label nest reach : List ℕ} {t : Task} {heads rest : ℕ} {at before plan : List ℕ} {g rest' group : ℕ} {plan' : List ℕ}

@@ -158,9 +158,6 @@ module _ {people levels : ℕ} {class : List ℕ} (table : ClassTable people lev
 -- ---- the table
 
 module _ (people : ℕ) (class may : List ℕ) where
-  pub reached_none : (x z : ℕ) {reach : List ℕ} → z ≤ x → length reach ≡ label_entries → ReachedFrom people class may x z reach
-  reached_none x z l e = record { sized = e; each = λ y h k. absurd (omega arith) }
-
   pub reached_from : (x x' z : ℕ) {reach : List ℕ} → x ≤ x' → ReachedFrom people class may x z reach → ReachedFrom people class may x' z reach
   reached_from x x' z l w = record { sized = w.sized; each = λ y h k. w.each y (omega arith) k }
 
@@ -174,10 +171,6 @@ module _ (people : ℕ) (class may : List ℕ) where
       }
 
   module _ (levels q : ℕ) where
-    -- a level begun
-    pub rising_none : {reach : List ℕ} → ReachedFrom people class may ((q + 1) * 12) (levels * 12) reach → Rising people levels class may q 0 reach
-    rising_none w = record { row = reached_none (q * 12) (q * 12 + 0) (omega arith) w.sized; below = w }
-
     -- an entry of the level below
     pub rising_below : {s : ℕ} {reach : List ℕ} → s < 12 → q + 1 < levels → Rising people levels class may q s reach
         → PartsOf people (may_in may s) (number_in class (suc q)) (get_or reach (q * 12 + s + 12) 0)

@@ -82,10 +82,6 @@ realized_none j may label q S C none₁ = (
 
 -- ---- the classes that have somebody for each step
 
-pub candidates_none : (reach : List ℕ) (q group inside : ℕ) → Candidates reach q group inside group inside
-candidates_none reach q group inside =
-    record { part = λ s h. h; among = λ v h. h; each = λ v s h k n. true-false k n; all = λ v h f. h }
-
 pub candidates_next : {reach : List ℕ} {q group inside rest r s rest' : ℕ} → Candidates reach q group inside rest r → FirstAndRest rest s rest'
     → Candidates reach q group inside rest' (bit_and r (get_or reach (q * 12 + s) 0))
 candidates_next {reach} {q} {group} {inside} {rest} {r} {s} {rest'} w first =
@@ -105,15 +101,6 @@ pub candidates_all : {reach : List ℕ} {q group inside rest r : ℕ} → Candid
 candidates_all {reach} {q} {group} {inside} {rest} {r} w e = subst (λ (x : ℕ). Candidates reach q group inside x r) e w
 
 -- ---- the classes that host a group
-
-pub hosting_none : {may label nest reach : List ℕ} {t : Task} {row : ℕ} → Hosting may label nest reach t row row 0
-hosting_none =
-    record {
-      part = λ v h. h;
-      only = λ v h. true-false h (empty_lacks v);
-      left = λ v h. empty_lacks v;
-      done = λ v h n. true-false h n;
-    }
 
 module _ {may label nest reach : List ℕ} {t : Task} {row rest r v rest' : ℕ} (w : Hosting may label nest reach t row rest r)
     (first : FirstAndRest rest v rest') where
@@ -219,9 +206,6 @@ module _ {may label nest reach : List ℕ} {t : Task} {row : ℕ} (few : t.steps
   hosted_tried {rest} {r} x e = record { row = row; candidates = w; hosting = hosting_all x e }
 
 -- ---- the rows of the groups
-
-pub linked_none : {may label nest reach : List ℕ} {t : Task} {heads : ℕ} {edges : List ℕ} → length edges ≡ 12 → Linked may label nest reach t heads heads edges
-linked_none l = record { sized = l; part = λ g h. h; done = λ g h n. true-false h n }
 
 -- group g has its row
 pub linked_next : {may label nest reach : List ℕ} {t : Task} {heads rest : ℕ} {edges : List ℕ} {g rest' group row : ℕ}

@@ -35,9 +35,6 @@ able_some may people s l d =
     let w = able_of may people s _ (trailing_lowest 64 (bit_and (get_or may s 0) people) k d).has in
     (_, w.0, w.1)
 
-pub staffing_none : {may : May} {C : ℕ → Bool} {steps : ℕ} → Staffing may C steps steps
-staffing_none = record { part = λ s h. h; able = λ s h n. true-false h n }
-
 module _ (may : List ℕ) (people s : ℕ) {steps rest : ℕ} where
   pub staffing_next : {rest' : ℕ} → people < 2 ^ 64 → Staffing (may_in may) (has_bit people) steps rest → FirstAndRest rest s rest'
       → (bit_and (get_or may s 0) people ≡ 0 → ⊥) → Staffing (may_in may) (has_bit people) steps rest'
@@ -61,9 +58,6 @@ staffing_all {may} {C} {steps} w e = subst (Staffing may C steps) e w
 
 pub untouched : (steps : ℕ) (plan : List ℕ) → Untouched steps plan plan
 untouched steps plan = record { sized = refl; kept = λ s h. refl }
-
-pub staffed_none : {may : May} {C : ℕ → Bool} {steps : ℕ} {plan : List ℕ} → StaffedBy may C steps steps plan plan
-staffed_none {steps = steps} {plan = plan} = record { kept = untouched steps plan; part = λ s h. h; able = λ s h n. true-false h n }
 
 module _ (may : List ℕ) (people : ℕ) {steps rest s rest' : ℕ} {plan₀ plan : List ℕ} (w : StaffedBy (may_in may) (has_bit people) steps rest plan₀ plan)
     (first : FirstAndRest rest s rest') where

@@ -56,9 +56,6 @@ module _ {j : Job} {people levels : ℕ} {may label nest reach : List ℕ} {plac
         (λ p l h. mask_has mask (j.class 1 p) (lt-ltb (j.class 1 p) people (class_few p l))) (λ r s a b l h. refl)
 
 module _ {people levels placed : ℕ} {t : Task} (whole : WholeTask people levels placed t) {may label nest reach : List ℕ} where
-  pub whole_sized : ArraysSized levels may label nest reach placed → ArraysSized t.levels may label nest reach t.steps
-  whole_sized w = subst (λ (x : Task). ArraysSized x.levels may label nest reach x.steps) (sym whole.task) w
-
   pub decided_realizable : {r : Bool} → Decided may label nest reach t r → Realizable people levels may label nest reach placed r
   decided_realizable {r} w = record {
     says = λ j k.

@@ -37,28 +37,10 @@ module _ (size : Size) (class rule : List ℕ) (given : Classed size class rule)
         up = refining_up whole given.refining a b from l to;
       }
 
-  -- each rule of a job can be carried
-  pub carriable : (i : ℕ) → i < size.rules → (q : ℕ) → 1 ≤ q → q ≤ size.levels → Carriable size class (get_or rule i 0) q
-  carriable i l q from to =
-      record {
-        few_steps = given.ruled.few_steps;
-        few_people = given.few_people;
-        few_levels = given.ruled.few_levels;
-        classes = given.classes;
-        nests = nests;
-        scope = given.ruled.scopes i l;
-        rule_ok = given.ruled.rule_ok i l;
-        from = from;
-        to = to;
-      }
-
 module _ {size : Size} {class : List ℕ} {r q : ℕ} (w : Carriable size class r q) where
   -- the level of a rule fits a number
   pub level_few : q < 16
   level_few = omega (arith, w.to, w.few_levels)
-
-  pub scope_few : ones (scope_in r) ≤ 12
-  scope_few = omega (arith, ones_bits size.steps (scope_in r) w.scope, count-le size.steps (has_bit (scope_in r)), w.few_steps)
 
   -- the plans that give each step one of the people
   abbrev Within : Plan → Type 0

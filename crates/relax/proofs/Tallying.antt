@@ -47,9 +47,6 @@ module _ {people : ℕ} {coarse fine : ℕ → ℕ} (nests : Nests people coarse
   pub coarse_below : (p : ℕ) → p < people → coarse p < people
   coarse_below p l = omega (arith, nests.coarse_number p l, number_few people coarse p l)
 
-  pub fine_below : (p : ℕ) → p < people → fine p < people
-  fine_below p l = omega (arith, nests.fine_number p l, number_few people fine p l)
-
 -- and there are at most as many classes as people
 pub classes_few : {people : ℕ} {coarse fine : ℕ → ℕ} {classes : ℕ} {counts : List ℕ} → people ≤ 64 → Counted people coarse fine classes counts → classes ≤ 64
 classes_few {people} {fine = fine} few w = omega (arith, w.all, distinct-le people (λ p. true) fine)
@@ -69,9 +66,6 @@ ranking_none people coarse fine =
     }
 
 module _ {people n : ℕ} {coarse fine : ℕ → ℕ} {met : ℕ} {sizes counts : List ℕ} (w : Ranking people n coarse fine met sizes counts) where
-  pub met-le : met ≤ n
-  met-le = omega (arith, w.so_far, distinct-le n (λ p. true) fine)
-
   pub ranked : n ≡ people → Counted people coarse fine met counts
   ranked e =
       record { all = w.so_far ∙ ap (classes_before fine) e; by_rank = subst (λ (k : ℕ). Tally k (of_rank people coarse fine) counts) e w.by_rank }
@@ -164,9 +158,6 @@ module _ (counts : List ℕ) (m : ℕ) where
   together_from (suc r) = let a = together_from r in omega arith
 
 module _ (counts : List ℕ) (last k : ℕ) where
-  pub needs_one : 1 ≤ k → Needs counts last k 1
-  needs_one l = record { from = omega arith; to = l; fewer = λ m a b. absurd (omega arith) }
-
   pub needs_more : (r : ℕ) → Needs counts last k r → r < k → together counts r last < k → Needs counts last k (r + 1)
   needs_more r w l b =
       record {

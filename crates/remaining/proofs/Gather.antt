@@ -55,8 +55,3 @@ gather_whole skipped n x e l =
     (λ k m.
     gather_has kept x k ∙ ap (λ (b : Bool). b && has_bit x (get_or kept k 0)) (lt-ltb k (length kept) (omega arith))
     ∙ ap (has_bit x) ((kept_whole skipped n e).itself k m))
-
--- one step more in front
-pub gather_more : (kept : List ℕ) (x i : ℕ) → i < length kept → gather (drop i kept) x ≡ bit x (get_or kept i 0) + 2 * gather (drop (suc i) kept) x
-unfolding gather
-gather_more kept x i l = rw (drop-cons kept i 0 l) refl

@@ -18,17 +18,6 @@ pub keeps_count : {kept step : List ℕ} {count : ℕ} → Keeps kept step count
 keeps_count {step = step} {count = count} h =
     ap length (sym h.are) ∙ length-take-le count step (omega (arith, h.sized, h.few))
 
--- the steps that are kept, as the array's first entries
-pub keeps_steps : {kept step : List ℕ} {count : ℕ} → Keeps kept step count → OfSteps (take count step)
-keeps_steps {kept} {step} {count} h =
-    let n : length (take count step) ≡ count = length-take-le count step (omega (arith, h.sized, h.few)) in
-    record {
-      few = omega (arith, h.few);
-      below = λ k l.
-          let b = h.below k (omega arith) in
-          let e = get_or-take count step k 0 (omega arith) in omega arith;
-    }
-
 -- by equal arrays and counts
 pub keeps_as : {kept step step' : List ℕ} {count count' : ℕ} → Keeps kept step count → step' ≡ step → count' ≡ count → Keeps kept step' count'
 keeps_as {kept} {step} {step'} {count} h e n =

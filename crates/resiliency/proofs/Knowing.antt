@@ -226,16 +226,6 @@ pub found_people : {j : Job} {may : May} (plan : List ℕ) → Existence j may (
 found_people plan x l s b = let w : plan_in plan s < _ = x.1.within s b in omega arith
 
 module _ {j : Job} {may rest : List ℕ} {away : ℕ} where
-  pub searched_lost : {words plans weight : List ℕ} {needs : ℕ} → Known j (may_in may) words plans → Remaining may away 12 rest → j.steps ≤ 12
-      → Existence j (may_in rest) None → length weight ≡ 12 → Stood j (may_in may) (has_bit away) words plans weight false needs
-  searched_lost k m l x w =
-      record {
-        known = k;
-        weights = w;
-        won = λ t. true-false t refl;
-        lost = λ t v. x (satisfiable_mono j (without (may_in may) (has_bit away)) (may_in rest) (λ s p b c h. m.each s p (omega arith) ∙ h) v);
-      }
-
   pub searched_won : (plan : List ℕ) {words words' plans plans' weight : List ℕ} {mask : ℕ} → Known j (may_in may) words plans
       → Remaining may away 12 rest → j.steps ≤ 12 → Existence j (may_in rest) (Some plan)
       → KeptPlan j.steps plan mask words plans words' plans'

@@ -30,37 +30,13 @@ or_none false b h k = k
 
 -- ---- the plans of a word do without the people away
 
-pub suits_nobody : (word : ℕ) (plans : List ℕ) → Suits word plans 0
-suits_nobody word plans = record { each = λ i p l w h. true-false h (empty_lacks p) }
-
 module _ {j : Job} {may : May} {known plans : List ℕ} (k : Known j may known plans) where
-  pub suits_one : (a x : ℕ) → a < 64 → Added 0 a x → Suits (get_or known a 0) plans x
-  suits_one a x l d =
-      record {
-        each = λ i p b w h.
-            let e : p ≡ a = eqb-true p a (sym (ap (λ (t : Bool). t || eqb p a) (empty_lacks p)) ∙ sym (d.each p) ∙ h) in
-            rw e (k.spares i a b l w);
-      }
-
-  pub suits_two : (a b x y : ℕ) → a < 64 → b < 64 → Added 0 a x → Added x b y → Suits (bit_and (get_or known a 0) (get_or known b 0)) plans y
-  suits_two a b x y l m d f =
-      record {
-        each = λ i p n w h.
-            by_cases (has_bit x p)
-            (λ t. (suits_one a x l d).each i p n (and-bit_left (get_or known a 0) (get_or known b 0) i w) t)
-            (λ t. let e : p ≡ b = eqb-true p b (sym (ap (λ (u : Bool). u || eqb p b) t) ∙ sym (f.each p) ∙ h) in
-            rw e (k.spares i b n m (and-bit_right (get_or known a 0) (get_or known b 0) i w)));
-      }
 
 -- ---- the people from one on
 
 pub record Range (from to mask : ℕ) : Type 0 where
   pub within : (p : ℕ) → has_bit mask p ≡ true → (from ≤ p) × (p < to)
   pub has : (p : ℕ) → from ≤ p → p < to → has_bit mask p ≡ true
-
-pub range_all : {n x : ℕ} → Mask (λ p. ltb p n) x → Range 0 n x
-range_all {n} m =
-    record { within = λ p h. (omega arith, ltb-true p n (sym (m.each p) ∙ h)); has = λ p a b. m.each p ∙ lt-ltb p n b }
 
 pub range_above : {from n x y : ℕ} → from ≤ n → Mask (λ p. ltb p n) x → Mask (λ p. ltb p from) y → Range from n (bit_xor x y)
 range_above {from} {n} {x} {y} l mx my =
@@ -174,10 +150,6 @@ module _ {j : Job} {may : May} {away from : ℕ} where
 abbrev pub Masks : ℕ → List ℕ → Type 0
 Masks away xs = (q : ℕ) → has_bit away q ≡ member xs q
 
-pub masks_nobody : Masks 0 []
-unfolding member
-masks_nobody q = empty_lacks q
-
 member-snoc : (xs : List ℕ) (p q : ℕ) → (member xs q || eqb q p) ≡ member (xs ++ (p ∷ [])) q
 unfolding member
 member-snoc [] p q = or-false (eqb q p)
@@ -190,9 +162,6 @@ member-snoc (x ∷ xs) p q = or_last (eqb q x) (member xs q) (eqb q p) ∙ ap (�
     or_last : (a b c : Bool) → ((a || b) || c) ≡ (a || (b || c))
     or_last true b c = refl
     or_last false b c = refl
-
-pub masks_more : {away x : ℕ} (xs : List ℕ) (p : ℕ) → Masks away xs → Added away p x → Masks x (xs ++ (p ∷ []))
-masks_more xs p m d q = d.each q ∙ ap (λ (b : Bool). b || eqb q p) (m q) ∙ member-snoc xs p q
 
 module _ {j : Job} {may : May} {away from : ℕ} {words plans weight : List ℕ} {c : ℕ} (xs : List ℕ) (m : Masks away xs)
     (l : Last j may away from words plans weight c) where

@@ -46,9 +46,6 @@ pub place_below : (k width times v : ℕ) → k < times → v < width → k * wi
 place_below k width times v l b = omega (arith, mul-le-mul_right width l, suc-mul k width)
 
 module _ (m width : ℕ) where
-  pub repeated_none : Repeated m width 0 0
-  repeated_none = record { has = λ k v l. absurd (not-suc-le-zero l) }
-
   pub repeated_more : (times k all : ℕ) → times * width ≤ 64 → k < times → Repeated m width k all → Repeated m width (k + 1) (bit_or all (m * 2 ^ (k * width) % 2 ^ 64))
   repeated_more times k all room l w =
       record {
@@ -64,9 +61,6 @@ module _ (m width : ℕ) where
   repeated_all times k all l w = record { has = λ i v b. w.has i v (omega arith) }
 
 module _ (reach : List ℕ) (q width load : ℕ) where
-  pub places_none : Places 0 reach q width load (replicate {A = ℕ} 12 0)
-  places_none = record { sized = length-replicate {A = ℕ} 12 0; each = λ s l. absurd (not-suc-le-zero l) }
-
   pub places_more : (n row : ℕ) (edges : List ℕ) → n < 12 → Places n reach q width load edges → Repeated (get_or reach (q * 12 + n) 0) width load row
       → Places (n + 1) reach q width load (set edges n row)
   places_more n row edges l w r =

@@ -37,9 +37,6 @@ pub record Growing (s t d q : ℕ) (label label' : List ℕ) : Type 0 where
   pub done : (r u : ℕ) → 1 ≤ r → r ≤ q → u < 12 → label_in label' r u ≡ grown (label_in label) s t d r u
   pub left : (r u : ℕ) → q < r → r ≤ most_levels → u < 12 → label_in label' r u ≡ label_in label r u
 
-pub growing_none : (s t d : ℕ) (label : List ℕ) → length label ≡ label_entries → Growing s t d 0 label label
-growing_none s t d label e = record { sized = e; done = λ r u a b l. absurd (omega arith); left = λ r u a b l. refl }
-
 module _ (s t d q : ℕ) (label label' : List ℕ) (v : ℕ) (new : s < 12) (old : t < 12) (below : q < most_levels) (w : Growing s t d q label label')
     (is : v ≡ cond (ltb q d) (get_or label' (q * 12 + t) 0) s) where
   elsewhere : (r u : ℕ) → ((r - 1) * 12 + u ≡ q * 12 + s → ⊥) → label_in (set label' (q * 12 + s) v) r u ≡ label_in label' r u

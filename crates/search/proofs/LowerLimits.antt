@@ -146,14 +146,6 @@ taken {all} {n} {free} {mask} spare l h w = let e : n ≡ spare = omega arith in
 -- ---- the edges
 
 module _ (reach : List ℕ) (q extra : ℕ) where
-  pub edges_none : Edges 0 reach q extra (replicate {A = ℕ} 12 0)
-  edges_none =
-      record {
-        sized = length-replicate {A = ℕ} 12 0;
-        own = λ s v l. absurd (not-suc-le-zero l);
-        shared = λ s v l. absurd (not-suc-le-zero l);
-      }
-
   pub edges_more : (n : ℕ) (edges : List ℕ) → n < 12 → Edges n reach q extra edges
       → Edges (n + 1) reach q extra (set edges n (bit_or (get_or reach (q * 12 + n) 0) extra))
   edges_more n edges l w =

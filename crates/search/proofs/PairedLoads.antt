@@ -39,9 +39,6 @@ use Rattle.search.proofs.Unmet.{manned}
 -- ---- the classes inside a class
 
 module _ (class : List ℕ) (coarse fine : ℕ) where
-  pub inside_none : Inside 0 class coarse fine (replicate {A = ℕ} 64 0)
-  inside_none = record { sized = length-replicate {A = ℕ} 64 0; has = λ p l. absurd (not-suc-le-zero l) }
-
   -- a person more
   pub inside_more : (n row : ℕ) (within : List ℕ) → Inside n class coarse fine within
       → Added (get_or within (number_in class coarse n) 0) (number_in class fine n) row → Inside (n + 1) class coarse fine (set within (number_in class coarse n) row)
@@ -73,9 +70,6 @@ module _ (class : List ℕ) (coarse fine : ℕ) where
 -- ---- the room
 
 module _ (within : List ℕ) (all load width : ℕ) where
-  pub room_none : Room 0 within all load width 0
-  room_none = record { has = λ x l. absurd (not-suc-le-zero l) }
-
   -- a place that its class does not have
   pub room_past : (n room : ℕ) → ones (bit_and (get_or within (n % width) 0) all) * load ≤ n / width → Room n within all load width room
       → Room (n + 1) within all load width room

@@ -30,10 +30,6 @@ module _ {people all : ℕ} (everybody : Mask (λ i. ltb i people) all) (m : ℕ
   pub nobody : bit_and m all ≡ 0 → (p : ℕ) → p < people → has_bit m p ≡ true → ⊥
   nobody e p l h = true-false (mask_has everybody p (lt-ltb p people l)) (and_apart m all p e h)
 
--- the steps that rules name, one after the other
-pub named_none : (of : List ℕ) → Named 0 of 0
-named_none of = record { below = λ s h. true-false h (empty_lacks s); covers = λ s l. absurd (not-suc-le-zero l) }
-
 module _ {n : ℕ} {of : List ℕ} {r : ℕ} (w : Named n of r) where
   pub named_skip : get_or of n 0 ≡ 0 → Named (n + 1) of r
   named_skip e =

@@ -62,12 +62,6 @@ module _ {s people steps rules : List ℕ} {j : SheetJob} (w : Filled s people s
       let q : length j.person_tag ≡ 64 = ap length person_tags ∙ person-table (tag_of s) in
       omega arith
 
-  pub step-tags-length : length steps ≤ length j.step_tag
-  step-tags-length =
-      let b = w.few in
-      let q : length j.step_tag ≡ 12 = ap length step_tags ∙ length-table 12 (tag_of s) steps w.few in
-      omega arith
-
   pub classes_length : length j.class ≡ class_words
   classes_length = ap length classes ∙ length_classes s people w.people_listed.fits w.few_levels
 

@@ -155,25 +155,6 @@ module _ (s people steps rules : List ℕ) (n : ℕ) (p : Passes s n people step
 pub sheet_levels : (s people steps rules : List ℕ) → read_sheet s ≡ job people steps rules → (1 ≤ class_levels s) × (class_levels s ≤ most_class_levels)
 sheet_levels s people steps rules e = header_levels s (length s / 16) (sheet_passes s people steps rules e).good_header
 
--- a job with its later rules left out is in order too: what is asked of it is another thing
-pub fewer_rules : {people steps rules few : ℕ} {j : SheetJob} → ReadableJob people steps rules j → few ≤ rules → ReadableJob people steps few j
-fewer_rules r l =
-    record {
-      people_some = r.people_some;
-      people_most = r.people_most;
-      steps_most = r.steps_most;
-      rules_most = omega (arith, r.rules_most);
-      levels_some = r.levels_some;
-      levels_most = r.levels_most;
-      sized = r.sized;
-      person = r.person;
-      step_tag = r.step_tag;
-      rule = λ i m. r.rule i (omega arith);
-      person_tags = r.person_tags;
-      step_tags = r.step_tags;
-      nested = r.nested;
-    }
-
 -- the answer of a job
 answer_job : (s : List ℕ) (r : Read) (j : SheetJob) → answer s r ≡ Ok j → (p : List ℕ) × (t : List ℕ) × (u : List ℕ) × (r ≡ job p t u) × (j ≡ job_of s p t u)
 unfolding answer

@@ -20,22 +20,9 @@ length_some n l = ap (λ (b : Bool). cond b n 0) (le-leb _ _ l)
 pub length_none : (n : ℕ) → 2256 < n → held_length n ≡ 0
 length_none n l = ap (λ (b : Bool). cond b n 0) (lt-leb _ _ l)
 
--- in any case not above the room
-pub length_most : (n : ℕ) → held_length n ≤ 2256
-length_most n = by_cases (leb n 2256) (λ t. let l = leb-true n 2256 t in let e = length_some n l in omega arith) (λ t. let e = length_none n (leb-false n 2256 t) in omega arith)
-
 map_same : (l : List ℕ) → map (λ (x : ℕ). x) l ≡ l
 map_same [] = refl
 map_same (x ∷ l) = ap (λ (r : List ℕ). x ∷ r) (map_same l)
-
--- all bytes of a sheet are there
-pub stored_all : (s bytes : List ℕ) (k : ℕ) → length s ≤ 2256 → Filled 2256 (λ x. x) s (length s) bytes k → length s ≤ k
-    → bytes ≡ s ++ zeros (2256 - length s)
-unfolding table
-stored_all s bytes k l f h =
-    filled_all 2256 (λ x. x) s (length s) bytes k f h
-    ∙ ap (table 2256 (λ x. x)) (take_all (length s) s (omega arith))
-    ∙ ap (λ (x : List ℕ). x ++ zeros (2256 - length s)) (map_same s)
 
 take_front : (s rest : List ℕ) → take (length s) (s ++ rest) ≡ s
 take_front [] rest = refl

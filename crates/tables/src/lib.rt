@@ -15,11 +15,11 @@ ghost use Rattle.tables.specs.Arrays.{MasksOf, word_of, NumbersAt, Entered, Leve
 ghost use Rattle.tables.specs.Rows.{Pushed};
 
 use bits::columns::column;
+use bits::set::Set;
 use bits::sizes::{
     CLASS_ENTRIES, ClassWords, Classes, Domains, MOST_PEOPLE, MOST_RULES, MOST_STEPS, PersonWords,
     Rules, SLOTS, SlotPeople,
 };
-use bits::set::Set;
 use bits::slots::first_there;
 use levels::{Tables, keep};
 use pattern::{Size, rule};

@@ -2,7 +2,6 @@
 use Rattle.workflow.specs.First.{found_in}
 use mathlib.Core.Path.{sym, ap, ◌∙◌}
 use native.Mathlib.Omega.{arith}
-
 use Rattle.first.proofs.Settling.{settled_start, settled_next, settled-all, first_standing, first_none}
 use Rattle.first.proofs.from_any.Goals as goal
 

@@ -1,37 +1,23 @@
--- `planner::write_answer` is safe: a refusal of the reader has a number, a readable sheet few steps and rules, and a plan that was found people of
--- the sheet. Assumes nothing.
+-- `planner::write_answer` is safe: a readable sheet has few steps and rules, and a plan that was found people of the sheet. Assumes nothing.
+use mathlib.Core.Path.{subst}
 use borrow.Author.Rules.{rules}
-use borrow.Author.Tests.{not-false}
-use Rattle.answer.proofs.Returnable.{read_returnable}
+use Rattle.answer.specs.Crew.{StaffedIn}
 use Rattle.answer.proofs.WasRead.{was_readable}
-use Rattle.answer.proofs.Found.{found_within}
-use Rattle.sheet.specs.Readable.{ReadableJob}
-use Rattle.instance.proofs.Figured.{staffed, rules_staffed}
+use Rattle.instance.proofs.Figured.{rules_staffed}
 use Rattle.planner.proofs.write_answer.Goals as goal
 
-pub number-requires : goal.number-requires
-number-requires g c = let r = c.read_job-read in read_returnable _ r.result r.ensures
-
-pub plan_job-planned-requires : goal.plan_job-planned-requires
-plan_job-planned-requires g c =
-    was_readable _ c.read_job-read.result c.read_job-read.ensures c.in-Readable.people c.in-Readable.steps c.in-Readable.rules c.in-Readable.is
+pub plan_job-requires : goal.plan_job-requires
+plan_job-requires g c = was_readable _ c.read_job.ensures c.in-Ok.is
 
 pub write_plan-requires : goal.write_plan-requires
 write_plan-requires g c =
-    let w : ReadableJob c.in-Readable.people c.in-Readable.steps c.in-Readable.rules c.read_job-read.result.job
-    = was_readable _ c.read_job-read.result c.read_job-read.ensures c.in-Readable.people c.in-Readable.steps c.in-Readable.rules c.in-Readable.is in
-    let p = c.plan_job-planned in
-    (w.steps_most, search rules, staffed w p.result.plan (found_within _ _ p.result.found p.result.plan p.ensures (not-false _ c.if-not-planned.false)))
+    let p = subst (StaffedIn c.in-Ok.job.steps) c.in-Some.is c.plan_job.ensures.1 in
+    ((was_readable _ c.read_job.ensures c.in-Ok.is).steps_most, p.0, p.1)
 
 pub rule_figures-figures-requires : goal.rule_figures-figures-requires
 rule_figures-figures-requires g c =
-    let w : ReadableJob c.in-Readable.people c.in-Readable.steps c.in-Readable.rules c.read_job-read.result.job
-    = was_readable _ c.read_job-read.result c.read_job-read.ensures c.in-Readable.people c.in-Readable.steps c.in-Readable.rules c.in-Readable.is in
-    let p = c.plan_job-planned in
-    rules_staffed w p.result.plan (search rules) (staffed w p.result.plan (found_within _ _ p.result.found p.result.plan p.ensures (not-false _ c.if-not-planned.false)))
+    let p = subst (StaffedIn c.in-Ok.job.steps) c.in-Some.is c.plan_job.ensures.1 in
+    rules_staffed (was_readable _ c.read_job.ensures c.in-Ok.is) c.in-Some.plan p.0 p.1
 
 pub write_rules-requires : goal.write_rules-requires
-write_rules-requires g c =
-    let w : ReadableJob c.in-Readable.people c.in-Readable.steps c.in-Readable.rules c.read_job-read.result.job
-    = was_readable _ c.read_job-read.result c.read_job-read.ensures c.in-Readable.people c.in-Readable.steps c.in-Readable.rules c.in-Readable.is in
-    (w.rules_most, search rules)
+write_rules-requires g c = ((was_readable _ c.read_job.ensures c.in-Ok.is).rules_most, search rules)
