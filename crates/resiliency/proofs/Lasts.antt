@@ -28,10 +28,6 @@ or_none : (a b : Bool) → a ≡ false → b ≡ false → (a || b) ≡ false
 or_none true b h k = h
 or_none false b h k = k
 
--- ---- the plans of a word do without the people away
-
-module _ {j : Job} {may : May} {known plans : List ℕ} (k : Known j may known plans) where
-
 -- ---- the people from one on
 
 pub record Range (from to mask : ℕ) : Type 0 where
