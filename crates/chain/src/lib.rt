@@ -70,6 +70,7 @@ pub fn walk_chain(
     let mut taken: usize = 0;
     let mut holder: usize = 0;
     let mut at = first;
+    // Each card names the next one: there is no range to go over.
     while at != 0 {
         if cards <= at {
             return Err(Fault::Index.on(holder));

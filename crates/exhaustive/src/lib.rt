@@ -49,6 +49,7 @@ pub fn try_every(job: &SheetJob) -> Trial
     // The first plan gives every step to the first person.
     let mut plan = [0u8; MOST_STEPS];
     let mut tried = 1;
+    // Up to 64^12 plans, more than a word counts, each made from the one before: there is no range to go over.
     while !is_valid(job, &plan) {
         if !next_plan(&mut plan, job.steps, job.people) {
             return Trial { plan: None, tried };

@@ -35,6 +35,23 @@ module _ (kind : ℕ → Kind) (j : Job) (π : Plan) where
             get_or-set_other figures n i v 0 d ∙ w.rest i (omega arith) m;
       }
 
+-- kind 5 looks at the largest load, and the others at the count
+pub looks_at_load : (kind classes load : ℕ) → 4 < kind → looked_at (kind_in kind) classes load ≡ load
+looks_at_load zero classes load l = absurd (omega arith)
+looks_at_load (suc zero) classes load l = absurd (omega arith)
+looks_at_load (suc (suc zero)) classes load l = absurd (omega arith)
+looks_at_load (suc (suc (suc zero))) classes load l = absurd (omega arith)
+looks_at_load (suc (suc (suc (suc zero)))) classes load l = absurd (omega arith)
+looks_at_load (suc (suc (suc (suc (suc n))))) classes load l = refl
+
+pub looks_at_count : (kind classes load : ℕ) → kind ≤ 4 → looked_at (kind_in kind) classes load ≡ classes
+looks_at_count zero classes load l = refl
+looks_at_count (suc zero) classes load l = refl
+looks_at_count (suc (suc zero)) classes load l = refl
+looks_at_count (suc (suc (suc zero))) classes load l = refl
+looks_at_count (suc (suc (suc (suc zero)))) classes load l = refl
+looks_at_count (suc (suc (suc (suc (suc n))))) classes load l = absurd (omega arith)
+
 -- what a readable job has of its rules and of a plan of its people
 module _ {people steps rules : ℕ} {j : sheet.SheetJob} (r : ReadableJob people steps rules j) where
   pub scoped : (i : ℕ) → i < rules → get_or j.rule_scope i 0 < 2 ^ steps

@@ -13,6 +13,7 @@ pub fn read_full<R: Read>(from: &mut R, buf: &mut [u8]) -> io::Result<usize>
     ensures whole { IfOk result (λ n. n < length buf.new → IsAtEnd (R.remaining from.new)) }
 {
     let mut done = 0;
+    // A read may give fewer bytes than are asked for, so that the rounds are not known beforehand.
     while done < buf.len() {
         let n = from.read(&mut buf[done..])?;
         if n == 0 {

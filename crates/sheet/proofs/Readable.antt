@@ -151,6 +151,73 @@ module _ (s people steps rules : List ℕ) (n : ℕ) (p : Passes s n people step
             ∙ sym (class_is few q k from (omega arith) m);
       }
 
+-- a job with its later rules left out is in order too: what is asked of it is another thing
+pub fewer_rules : {people steps rules few : ℕ} {j : SheetJob} → ReadableJob people steps rules j → few ≤ rules → ReadableJob people steps few j
+fewer_rules r l =
+    record {
+      people_some = r.people_some;
+      people_most = r.people_most;
+      steps_most = r.steps_most;
+      rules_most = omega (arith, r.rules_most);
+      levels_some = r.levels_some;
+      levels_most = r.levels_most;
+      sized = r.sized;
+      person = r.person;
+      step_tag = r.step_tag;
+      rule = λ i m. r.rule i (omega arith);
+      person_tags = r.person_tags;
+      step_tags = r.step_tags;
+      nested = r.nested;
+    }
+
+-- so is one that says so itself
+abbrev pub counting : ℕ → SheetJob → SheetJob
+counting few j =
+    record {
+      people = j.people;
+      steps = j.steps;
+      rules = few;
+      levels = j.levels;
+      person_tag = j.person_tag;
+      step_tag = j.step_tag;
+      skipped = j.skipped;
+      class = j.class;
+      permitted = j.permitted;
+      rule_scope = j.rule_scope;
+      rule_kind = j.rule_kind;
+      rule_level = j.rule_level;
+      rule_limit = j.rule_limit;
+    }
+
+pub fewer_counted : {people steps rules few : ℕ} {j : SheetJob} → ReadableJob people steps rules j → few ≤ rules → ReadableJob people steps few (counting few j)
+fewer_counted r l =
+    record {
+      people_some = r.people_some;
+      people_most = r.people_most;
+      steps_most = r.steps_most;
+      rules_most = omega (arith, r.rules_most);
+      levels_some = r.levels_some;
+      levels_most = r.levels_most;
+      sized =
+          record {
+            person_tag = r.sized.person_tag;
+            step_tag = r.sized.step_tag;
+            skipped = r.sized.skipped;
+            class = r.sized.class;
+            permitted = r.sized.permitted;
+            scope = r.sized.scope;
+            kind = r.sized.kind;
+            level = r.sized.level;
+            limit = r.sized.limit;
+          };
+      person = λ p m. let f = r.person p m in record { tag = f.tag; class = f.class; permitted = f.permitted };
+      step_tag = r.step_tag;
+      rule = λ i m. let f = r.rule i (omega arith) in record { level_from = f.level_from; level_to = f.level_to; scope = f.scope; limit = f.limit };
+      person_tags = r.person_tags;
+      step_tags = r.step_tags;
+      nested = r.nested;
+    }
+
 -- a sheet that was read has one to three class levels
 pub sheet_levels : (s people steps rules : List ℕ) → read_sheet s ≡ job people steps rules → (1 ≤ class_levels s) × (class_levels s ≤ most_class_levels)
 sheet_levels s people steps rules e = header_levels s (length s / 16) (sheet_passes s people steps rules e).good_header

@@ -219,6 +219,46 @@ permits people steps j few m =
       permitted = λ s p l k. (m.each s (omega arith)).each p ∙ ap (λ (b : Bool). b && has_bit (get_or j.permitted p 0) s) (lt-ltb p people k);
     }
 
+-- kinds 0 and 1 are `same`, those from 5 on limit the load
+pub low_least : (kind limit size : ℕ) → kind ≤ 1 → 1 ≡ least_of (kind_in kind) limit size
+low_least zero limit size l = refl
+low_least (suc zero) limit size l = refl
+low_least (suc (suc kind)) limit size l = absurd (omega arith)
+
+pub low_most : (kind limit steps : ℕ) → kind ≤ 1 → 1 ≡ most_of (kind_in kind) limit steps
+low_most zero limit steps l = refl
+low_most (suc zero) limit steps l = refl
+low_most (suc (suc kind)) limit steps l = absurd (omega arith)
+
+pub limit_least : (kind limit size : ℕ) → kind ≡ 4 → limit ≡ least_of (kind_in kind) limit size
+limit_least kind limit size e = rw e refl
+
+-- what kind 5 has
+pub load_kind : (kind : ℕ) → 4 < kind → kind_in kind ≡ maxLoad
+load_kind zero l = absurd (omega arith)
+load_kind (suc zero) l = absurd (omega arith)
+load_kind (suc (suc zero)) l = absurd (omega arith)
+load_kind (suc (suc (suc zero))) l = absurd (omega arith)
+load_kind (suc (suc (suc (suc zero)))) l = absurd (omega arith)
+load_kind (suc (suc (suc (suc (suc kind))))) l = refl
+
+-- and the others
+pub other_load : (kind limit steps : ℕ) → kind ≤ 4 → steps ≡ heaviest_of (kind_in kind) limit steps
+other_load zero limit steps l = refl
+other_load (suc zero) limit steps l = refl
+other_load (suc (suc zero)) limit steps l = refl
+other_load (suc (suc (suc zero))) limit steps l = refl
+other_load (suc (suc (suc (suc zero)))) limit steps l = refl
+other_load (suc (suc (suc (suc (suc kind))))) limit steps l = absurd (omega arith)
+
+pub high_most : (kind limit steps : ℕ) → 4 ≤ kind → steps ≡ most_of (kind_in kind) limit steps
+high_most zero limit steps l = absurd (omega arith)
+high_most (suc zero) limit steps l = absurd (omega arith)
+high_most (suc (suc zero)) limit steps l = absurd (omega arith)
+high_most (suc (suc (suc zero))) limit steps l = absurd (omega arith)
+high_most (suc (suc (suc (suc zero)))) limit steps l = refl
+high_most (suc (suc (suc (suc (suc kind))))) limit steps l = refl
+
 -- no more classes than steps are needed to hold them
 fewest_few : (size load : ℕ) → fewest size load ≤ size
 unfolding fewest

@@ -1,5 +1,7 @@
 -- The job that the tables pose has the spare count of the sheet's. Assumes nothing.
 use mathlib.Core.Path.{◌∙◌}
+use native.Mathlib.Omega.{arith}
+use Rattle.sheet.proofs.Readable.{fewer_counted}
 use Rattle.resiliency.proofs.Sizes.{spare_other}
 use Rattle.tables.proofs.Posing.{posed_valid}
 use Rattle.tables.proofs.Same.{permits}
@@ -9,7 +11,7 @@ pub may_masks-may-requires : goal.may_masks-may-requires
 may_masks-may-requires c = let r = c.requires.0 in (r.sized.permitted, r.people_most)
 
 pub pose-requires : goal.pose-requires
-pose-requires c = c.requires.0
+pose-requires c = fewer_counted c.requires.0 (omega arith)
 
 pub spare_count-requires : goal.spare_count-requires
 spare_count-requires c = (c.pose.ensures.ready, c.may_masks-may.ensures.size, c.requires.1)

@@ -3,6 +3,7 @@ use native.Mathlib.Omega.{arith}
 use Rattle.std.proofs.lemmas.Result.{err_from_is_err_and}
 use mathlib.Core.Path.{refl}
 use Rattle.bits.proofs.Says.{says_true, says_false}
+use Rattle.sheet.proofs.Readable.{fewer_counted}
 use Rattle.answer.proofs.WasRead.{was_readable}
 use Rattle.signing.proofs.Opening.{open_refused, sheet_fits, open_none, open_done}
 use Rattle.signing.proofs.open.open.Goals as goal
@@ -13,7 +14,7 @@ returns-in_err-posed c =
     rw (p.1, p.2) (open_refused _ c.read_job.ensures _ c.in_err-posed.was)
 
 pub can_finish-requires : goal.can_finish-requires
-can_finish-requires c = (was_readable _ c.read_job.ensures c.in_ok-posed.was, refl)
+can_finish-requires c = (fewer_counted (was_readable _ c.read_job.ensures c.in_ok-posed.was) (omega arith), refl)
 
 pub returns-then-not-can_finish : goal.returns-then-not-can_finish
 returns-then-not-can_finish c =

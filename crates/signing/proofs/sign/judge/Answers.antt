@@ -2,6 +2,7 @@
 use native.Mathlib.Omega.{arith}
 use borrow.Author.Rules.{rules}
 use Rattle.bits.proofs.Says.{says_true, says_false}
+use Rattle.sheet.proofs.Readable.{fewer_counted}
 use Rattle.answer.proofs.WasRead.{was_readable}
 use Rattle.signing.proofs.Deciding.{sign_unread, no_step, no_person, places, sign_taken, sign_granted, sign_ungranted}
 use Rattle.signing.proofs.sign.judge.Goals as goal
@@ -38,7 +39,7 @@ with_signer-asked-requires c =
     places c.args.job.now c.args.step c.args.person c.read_held.ensures c.in-Ok.is c.place_of-step_place.ensures c.in-Some.is c.place_of-person_place.ensures c.in-Some-person_place.is
 
 pub can_finish-requires : goal.can_finish-requires
-can_finish-requires c = (was_readable _ c.read_held.ensures c.in-Ok.is, search rules)
+can_finish-requires c = (fewer_counted (was_readable _ c.read_held.ensures c.in-Ok.is) (omega arith), search rules)
 
 pub returns-then-can_finish : goal.returns-then-can_finish
 returns-then-can_finish c =
