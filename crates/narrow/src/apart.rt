@@ -23,6 +23,7 @@ pub fn reach(crowd: &Crowds, level: usize, domain: u64) -> u64
 {
     let mut found: u64 = 0;
     let mut left = members(domain);
+    // No `for`: each turn takes out all who are of one class.
     while let Some(p) = left.next() {
         let mask = mates(crowd, level, p);
         found = found | mask;

@@ -19,6 +19,7 @@ pub fn propagate(tables: &Tables, pending: u64, dom: &mut Domains, effort: &mut 
     ensures { Narrowed (tabled_job tables.now) dom.old dom.new result }
 {
     let mut waiting = members(pending);
+    // No `for`: each turn may add rules that wait.
     while let Some(i) = waiting.next() {
         if *effort == 0 {
             return true;

@@ -15,6 +15,7 @@ fn firsts(crowd: &Crowds, level: usize, domain: u64) -> u64
 {
     let mut found: u64 = 0;
     let mut left = members(domain);
+    // No `for`: each turn takes out all who are of one class.
     while let Some(p) = left.next() {
         found = found.with(p);
         left.left = left.left & (mates(crowd, level, p) ^ ALL);

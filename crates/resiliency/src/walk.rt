@@ -27,6 +27,7 @@ fn last_member(
     let people = away.set();
     let among = u64::below(tables.size.people) ^ u64::below(from);
     let mut rest = members(needed(away.spared_by(&kept.known), &kept.plans, among));
+    // No `for`: each turn leaves only those whom the plan found needs.
     while let Some(p) = rest.next() {
         let stands = searched(tables, may, people.with(p), kept);
         let Some(needs) = stands else {
