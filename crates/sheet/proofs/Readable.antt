@@ -151,32 +151,13 @@ module _ (s people steps rules : List ℕ) (n : ℕ) (p : Passes s n people step
             ∙ sym (class_is few q k from (omega arith) m);
       }
 
--- a job with its later rules left out is in order too: what is asked of it is another thing
-pub fewer_rules : {people steps rules few : ℕ} {j : SheetJob} → ReadableJob people steps rules j → few ≤ rules → ReadableJob people steps few j
-fewer_rules r l =
-    record {
-      people_some = r.people_some;
-      people_most = r.people_most;
-      steps_most = r.steps_most;
-      rules_most = omega (arith, r.rules_most);
-      levels_some = r.levels_some;
-      levels_most = r.levels_most;
-      sized = r.sized;
-      person = r.person;
-      step_tag = r.step_tag;
-      rule = λ i m. r.rule i (omega arith);
-      person_tags = r.person_tags;
-      step_tags = r.step_tags;
-      nested = r.nested;
-    }
-
--- so is one that says so itself
+-- a job with the same fields and a count of rules of its own
 abbrev pub counting : ℕ → SheetJob → SheetJob
-counting few j =
+counting n j =
     record {
       people = j.people;
       steps = j.steps;
-      rules = few;
+      rules = n;
       levels = j.levels;
       person_tag = j.person_tag;
       step_tag = j.step_tag;
@@ -189,7 +170,8 @@ counting few j =
       rule_limit = j.rule_limit;
     }
 
-pub fewer_counted : {people steps rules few : ℕ} {j : SheetJob} → ReadableJob people steps rules j → few ≤ rules → ReadableJob people steps few (counting few j)
+-- a job with its later rules left out is in order too, whatever it says of their number: what is asked of it is another thing
+pub fewer_counted : {people steps rules few n : ℕ} {j : SheetJob} → ReadableJob people steps rules j → few ≤ rules → ReadableJob people steps few (counting n j)
 fewer_counted r l =
     record {
       people_some = r.people_some;
@@ -217,6 +199,9 @@ fewer_counted r l =
       step_tags = r.step_tags;
       nested = r.nested;
     }
+
+pub fewer_rules : {people steps rules few : ℕ} {j : SheetJob} → ReadableJob people steps rules j → few ≤ rules → ReadableJob people steps few j
+fewer_rules {j = j} r l = fewer_counted {n = j.rules} r l
 
 -- a sheet that was read has one to three class levels
 pub sheet_levels : (s people steps rules : List ℕ) → read_sheet s ≡ job people steps rules → (1 ≤ class_levels s) × (class_levels s ≤ most_class_levels)
