@@ -17,8 +17,10 @@ use Rattle.bits.proofs.Masks.{taken_was}
 use Rattle.bits.specs.Set.{Mask}
 use Rattle.workflow.specs.Problem.{Job, May, Satisfiable}
 use Rattle.bits.specs.Member.{member}
+use Rattle.bits.proofs.Member.{member_place}
 use Rattle.resiliency.specs.Away.{without}
-use Rattle.resiliency.specs.Known.{Known, Suits, Needed, Within, Stood, joined, Last}
+use Rattle.resiliency.specs.Group.{Suiting}
+use Rattle.resiliency.specs.Known.{Known, Suits, Needed, EachSpared, Within, Stood, joined, Last}
 use Rattle.resiliency.proofs.Breaking.{fewer_away}
 use Rattle.resiliency.proofs.Knowing.{and_other, valid-without, without-valid}
 use Rattle.resiliency.specs.Onward.{Stands}
@@ -169,3 +171,20 @@ module _ {j : Job} {may : May} {away from : ℕ} {words plans weight : List ℕ}
 
   pub last_breaks : c < j.people → Stands j may (xs ++ (c ∷ [])) → ⊥
   last_breaks b h = l.breaks b (fewer_away j may (member (xs ++ (c ∷ []))) (joined away c) (λ q n u. sym (same c q) ∙ u) h)
+
+-- ---- a group with each last member is spared by one of the kept plans
+
+module _ {j : Job} {may : May} {from : ℕ} {words plans : List ℕ} {word : ℕ} (xs : List ℕ) where
+  pub each_stands : Known j may words plans → ((k : ℕ) → k < length xs → get_or xs k 0 < 64) → Suiting words xs word → EachSpared j.people from word plans
+      → (p : ℕ) → from ≤ p → p < j.people → Stands j may (xs ++ (p ∷ []))
+  each_stands k few s e p a b =
+      let n = e.lacks p a b in (
+        k.plan n.0,
+        valid-without j may (member (xs ++ (p ∷ []))) (k.plan n.0) (k.valid n.0)
+            (λ t m. sym (member-snoc xs p (k.plan n.0 t))
+            ∙ or_none (member xs (k.plan n.0 t)) _
+            (is_false _ (λ u. let at = member_place xs (k.plan n.0 t) u in
+            true-false (k.people n.0 t n.1 m)
+            (subst (λ (q : ℕ). has_bit (get_or plans n.0 0) q ≡ false) at.2 (k.spares n.0 (get_or xs at.0 0) n.1 (few at.0 at.1) (s.each n.0 at.0 n.2 at.1)))))
+            (not_in (get_or plans n.0 0) p (k.plan n.0 t) (k.people n.0 t n.1 m) n.3)),
+      )

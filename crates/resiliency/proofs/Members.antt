@@ -43,17 +43,24 @@ masking_more xs k set set' l m a =
 pub suiting_none : (known xs : List ℕ) (word : ℕ) → Suiting known (take 0 xs) word
 suiting_none known xs word = record { each = λ i k h l. absurd (not-suc-le-zero l) }
 
+-- one member more, and of the plans those that do without that person too
+pub suiting_snoc : (known xs : List ℕ) (p word : ℕ) → Suiting known xs word → Suiting known (xs ++ p ∷ []) (bit_and word (get_or known p 0))
+suiting_snoc known xs p word s =
+    record {
+      each = λ i m h b.
+          below_suc (length xs) m (subst (λ (z : ℕ). m < z) (length-snoc xs p) b)
+          (λ c. rw (snoc_before xs p m c) (s.each i m (and-bit_left word _ i h) c))
+          (λ e. rw (e, snoc_at xs p) (and-bit_right word (get_or known p 0) i h));
+    }
+
+pub few_snoc : (xs : List ℕ) (p : ℕ) → ((k : ℕ) → k < length xs → get_or xs k 0 < 64) → p < 64
+    → (k : ℕ) → k < length (xs ++ p ∷ []) → get_or (xs ++ p ∷ []) k 0 < 64
+few_snoc xs p few l k b =
+    below_suc (length xs) k (subst (λ (z : ℕ). k < z) (length-snoc xs p) b) (λ c. rw (snoc_before xs p k c) (few k c)) (λ e. rw (e, snoc_at xs p) l)
+
 pub suiting_more : (known xs : List ℕ) (k word : ℕ) → k < length xs → Suiting known (take k xs) word
     → Suiting known (take (k + 1) xs) (bit_and word (get_or known (get_or xs k 0) 0))
-suiting_more known xs k word l s =
-    let n : length (take k xs) ≡ k = length-take-le k xs (omega arith) in
-    rw (next_item xs k l)
-    (record {
-      each = λ i m h b.
-          below_suc (length (take k xs)) m (subst (λ (z : ℕ). m < z) (length-snoc (take k xs) (get_or xs k 0)) b)
-          (λ c. rw (snoc_before (take k xs) (get_or xs k 0) m c) (s.each i m (and-bit_left word _ i h) c))
-          (λ e. rw (e, snoc_at (take k xs) (get_or xs k 0)) (and-bit_right word (get_or known (get_or xs k 0) 0) i h));
-    })
+suiting_more known xs k word l s = rw (next_item xs k l) (suiting_snoc known (take k xs) (get_or xs k 0) word s)
 
 -- all items
 pub whole : (P : List ℕ → Type 0) (xs : List ℕ) (k : ℕ) → length xs ≤ k → P (take k xs) → P xs

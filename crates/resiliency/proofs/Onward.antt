@@ -3,6 +3,7 @@ use mathlib.Core.List.{List, [], ◌∷◌, ◌++◌, append_assoc}
 use mathlib.Core.Path.{◌≡◌, refl, sym, subst, ◌∙◌}
 use Prim.Native.Nat.{ℕ, zero, suc, ◌+◌, ◌-◌, ◌≤◌, ◌<◌}
 use native.Mathlib.Omega.{arith}
+use lib.Bits.{bit_and}
 use lib.ListN.{length, get_or}
 use Rattle.std.specs.Prelude.{None, Some}
 use Rattle.bits.proofs.Below.{below_suc}
@@ -10,12 +11,13 @@ use Rattle.workflow.specs.Problem.{Job, May}
 use Rattle.workflow.specs.First.{plan_of, Earlier}
 use Rattle.workflow.proofs.Lists.{length-snoc}
 use Rattle.resiliency.specs.Away.{Breaks}
-use Rattle.resiliency.specs.Group.{members_in, Sized}
-use Rattle.resiliency.specs.Known.{Last}
+use Rattle.resiliency.specs.Group.{members_in, Sized, Suiting}
+use Rattle.resiliency.specs.Known.{Known, EachSpared, Last}
 use Rattle.resiliency.specs.Onward.{Onward, Stands, FirstFrom, Passed}
 use Rattle.resiliency.specs.declared.group.Group as code
 use Rattle.resiliency.proofs.Groups.{group_later}
-use Rattle.resiliency.proofs.Lasts.{Masks, last_stands, last_breaks}
+use Rattle.resiliency.proofs.Lasts.{Masks, last_stands, last_breaks, each_stands}
+use Rattle.resiliency.proofs.Members.{suiting_snoc, few_snoc}
 
 module _ {people from k p : ℕ} {zs : List ℕ} where
   -- a person and some after
@@ -49,6 +51,13 @@ module _ {people from k p : ℕ} {zs : List ℕ} where
         };
         above = λ i b. let a : p < get_or zs i 0 = group_later people (suc k) (p ∷ zs) o.group 0 (suc i) (omega arith) (omega arith) in omega arith;
       }
+
+-- each last member is spared by one of the kept plans
+pub last_spared : (j : Job) (may : May) (xs : List ℕ) (from : ℕ) {words plans : List ℕ} {word : ℕ} → Known j may words plans
+    → ((k : ℕ) → k < length xs → get_or xs k 0 < 64) → Suiting words xs word → EachSpared j.people from word plans → FirstFrom j may xs from 1 None
+last_spared j may xs from k few s e [] o = absurd (let z : 0 ≡ 1 = o.group.size in omega arith)
+last_spared j may xs from k few s e (p ∷ []) o = each_stands xs k few s e p (o.above 0 (omega arith)) (o.group.within 0 (omega arith))
+last_spared j may xs from k few s e (p ∷ q ∷ zs) o = absurd (let z : suc (suc (length zs)) ≡ 1 = o.group.size in omega arith)
 
 module _ (j : Job) (may : May) (xs : List ℕ) (from : ℕ) where
   -- ---- the last member
@@ -145,6 +154,16 @@ module _ (j : Job) (may : May) (xs : List ℕ) (from : ℕ) where
         → FirstFrom j may next (p + 1) (more - 1) None → Passed j may xs from (more - 1) (p + 1)
     turn_none p e h n =
         passed_more (more - 1) p h (subst (λ (ys : List ℕ). FirstFrom j may ys (p + 1) (more - 1) None) e n)
+
+    -- and where the next is the last member
+    pub turn_spared : (p : ℕ) {words plans : List ℕ} {word : ℕ} → more ≡ 2 → p < 64 → Known j may words plans
+        → ((k : ℕ) → k < length xs → get_or xs k 0 < 64) → Suiting words xs word → EachSpared j.people (p + 1) (bit_and word (get_or words p 0)) plans
+        → Passed j may xs from (more - 1) p → Passed j may xs from (more - 1) (p + 1)
+    turn_spared p e l k few s n h =
+        let one : 1 ≡ more - 1 = omega arith in
+        turn_none p refl h
+        (subst (λ (m : ℕ). FirstFrom j may (xs ++ p ∷ []) (p + 1) m None) one
+        (last_spared j may (xs ++ p ∷ []) (p + 1) k (few_snoc xs p few l) (suiting_snoc _ xs p _ s) n))
 
     pub turn_found : (p : ℕ) {next : List ℕ} (g : code.Group) → next ≡ xs ++ p ∷ [] → from ≤ p → p < j.people → 1 ≤ more
         → Passed j may xs from (more - 1) p → FirstFrom j may next (p + 1) (more - 1) (Some g) → FirstFrom j may xs from more (Some g)

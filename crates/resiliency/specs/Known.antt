@@ -64,6 +64,10 @@ pub record Needed (word : ℕ) (plans : List ℕ) (among rest : ℕ) : Type 0 wh
   pub lacks : (p : ℕ) → has_bit among p ≡ true → has_bit rest p ≡ false
       → (i : ℕ) × (i < 64) × (has_bit word i ≡ true) × (has_bit (get_or plans i 0) p ≡ false)
 
+-- each of the people from one on is lacked by a mask of the word
+pub record EachSpared (people from word : ℕ) (plans : List ℕ) : Type 0 where
+  pub lacks : (p : ℕ) → from ≤ p → p < people → (i : ℕ) × (i < 64) × (has_bit word i ≡ true) × (has_bit (get_or plans i 0) p ≡ false)
+
 -- the job has a valid plan without the people away, all of whose people are in the mask
 abbrev pub Within : Job → May → (ℕ → Bool) → ℕ → Type 0
 Within j may away mask = (π : Plan) × Valid j (without may away) π × ((s : ℕ) → s < j.steps → has_bit mask (π s) ≡ true)

@@ -1,16 +1,16 @@
 // The away sets of a size, in crew order, up to the first whose absence leaves no valid plan. Of those that differ in their last member
 // alone, the ones that a plan found answers for are passed over.
-ghost use Rattle.std.specs.Prelude.{◌≡◌, ◌+◌, ◌≤◌, ◌<◌, length};
+ghost use Rattle.std.specs.Prelude.{true, ◌≡◌, ◌+◌, ◌≤◌, ◌<◌, length};
 ghost use Rattle.levels.specs.Tabled.{tabled_job, Ready};
 ghost use Rattle.pattern.specs.Tables.{may_in};
 ghost use Rattle.resiliency.specs.Group.{members_in, Sized};
-ghost use Rattle.resiliency.specs.Known.{Keeping};
+ghost use Rattle.resiliency.specs.Known.{Keeping, EachSpared};
 ghost use Rattle.resiliency.specs.Onward.{FirstFrom};
 
 use crate::group::Group;
 use crate::known::{Kept, needed, searched};
 use bits::set::{Set, members};
-use bits::sizes::Domains;
+use bits::sizes::{Domains, MOST_PEOPLE};
 use levels::Tables;
 
 // The group with the first person, from one on, whose absence besides leaves no valid plan.
@@ -38,6 +38,15 @@ fn last_member(
     None
 }
 
+// Whether of the people from one on each is spared by one of the kept plans of a word.
+fn all_spared(people: usize, from: usize, word: u64, plans: &[u64; MOST_PEOPLE]) -> bool
+    requires { (people ≤ 64) × (from ≤ people) × (length plans.now ≡ 64) }
+    ensures { result ≡ true → EachSpared people from word plans.now }
+{
+    let among = u64::below(people) ^ u64::below(from);
+    needed(word, plans, among) == 0
+}
+
 // The first group of these people and so many more, from one on, whose absence leaves no valid plan.
 pub fn first_group(
     tables: &Tables,
@@ -54,11 +63,18 @@ pub fn first_group(
         return last_member(tables, may, away, from, kept);
     }
     let people = tables.size.people;
+    let mut spared = away.spared_by(&kept.known);
     for p in from..people {
+        // Mostly the kept plans answer for each last member: then no group is made, and nothing is asked.
+        if more == 2 && all_spared(people, p + 1, spared & kept.known[p], &kept.plans) {
+            continue;
+        }
         let found = first_group(tables, may, away.and(p), p + 1, more - 1, kept);
         if let Some(group) = found {
             return Some(group);
         }
+        // What is kept may have changed.
+        spared = away.spared_by(&kept.known);
     }
     None
 }

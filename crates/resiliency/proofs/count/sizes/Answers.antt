@@ -15,7 +15,8 @@ loop-size-init c = (c.requires.3, goes_first (tabled_job c.args.tables.now) (may
 
 pub returns-in-Some : goal.returns-in-Some
 returns-in-Some c = (
-  goes_found (tabled_job c.args.tables.now) (may_in c.args.may.now) c.args.cap c.loop-size.size c.in-Some.group c.loop-size-test.true c.loop-size.invariant.1
+  goes_found (tabled_job c.args.tables.now) (may_in c.args.may.now) c.args.cap c.loop-size.size c.in-Some.group (omega (arith, c.loop-size-test.true))
+      c.loop-size.invariant.1
       (subst (λ (xs : List ℕ). FirstFrom (tabled_job c.args.tables.now) (may_in c.args.may.now) xs 0 (c.loop-size.size + 1) (Some c.in-Some.group)) c.none.ensures.1 c.in-Some.ensures.1),
   (c.in-Some.ensures.1.0, (let n = c.in-Some.ensures.1.1 in omega arith)),
 )
@@ -23,9 +24,9 @@ returns-in-Some c = (
 pub loop-size-preserved : goal.loop-size-preserved
 loop-size-preserved c = (
   c.first_group-found.ensures.0,
-  goes_on (tabled_job c.args.tables.now) (may_in c.args.may.now) c.args.cap c.loop-size.size c.loop-size-test.true c.loop-size.invariant.1
+  goes_on (tabled_job c.args.tables.now) (may_in c.args.may.now) c.args.cap c.loop-size.size (omega (arith, c.loop-size-test.true)) c.loop-size.invariant.1
       (subst (λ (xs : List ℕ). FirstFrom (tabled_job c.args.tables.now) (may_in c.args.may.now) xs 0 (c.loop-size.size + 1) None) c.none.ensures.1 c.in_default.ensures.1),
 )
 
 pub returns : goal.returns
-returns c = (goes_end (tabled_job c.args.tables.now) (may_in c.args.may.now) c.args.cap c.loop-size.size c.loop-size-test.false c.loop-size.invariant.1, tt)
+returns c = (goes_end (tabled_job c.args.tables.now) (may_in c.args.may.now) c.args.cap c.loop-size.size (omega (arith, c.loop-size-test.false, c.requires.2)) c.loop-size.invariant.1, tt)

@@ -6,7 +6,7 @@ use Rattle.levels.specs.Tabled.{tabled_job}
 use Rattle.pattern.specs.Tables.{may_in}
 use Rattle.resiliency.specs.Group.{members_in}
 use Rattle.resiliency.specs.Onward.{FirstFrom}
-use Rattle.resiliency.proofs.Onward.{passed_none, turn_none, turn_found, turns_end}
+use Rattle.resiliency.proofs.Onward.{passed_none, turn_none, turn_spared, turn_found, turns_end}
 use Rattle.resiliency.proofs.walk.+first_group.Goals as goal
 
 pub last_member-requires : goal.last_member-requires
@@ -22,7 +22,7 @@ returns-then-more-eq1 t c = (
 
 pub loop-p-init : goal.loop-p-init
 loop-p-init t c =
-    (c.requires.2, passed_none (tabled_job c.args.tables.now) (may_in c.args.may.now) (members_in c.args.away) c.args.from (c.args.more - 1))
+    (c.requires.2, passed_none (tabled_job c.args.tables.now) (may_in c.args.may.now) (members_in c.args.away) c.args.from (c.args.more - 1), c.spared_by-spared.ensures)
 
 pub first_group-found-requires : goal.first_group-found-requires
 first_group-found-requires t c =
@@ -53,7 +53,17 @@ loop-p-preserved t c = (
   c.first_group-found.ensures.0,
   turn_none (tabled_job c.args.tables.now) (may_in c.args.may.now) (members_in c.args.away) c.args.from c.args.more c.loop-p.p c.and.ensures.2
       c.loop-p.invariant.1 c.in_default.ensures.1,
+  c.spared_by-spared-in-loop-p.ensures,
 )
+
+pub loop-p-preserved-then-all_spared : goal.loop-p-preserved-then-all_spared
+loop-p-preserved-then-all_spared t c =
+    let i = c.loop-p.invariant in (
+      i.0,
+      turn_spared (tabled_job c.args.tables.now) (may_in c.args.may.now) (members_in c.args.away) c.args.from c.args.more c.loop-p.p c.if-more-eq2.true
+          (omega (arith, c.loop-p-test.true, c.requires.0.tabled.given.few_people)) i.0.known c.requires.3.people i.2 (c.all_spared.ensures c.if-all_spared.true) i.1,
+      i.2,
+    )
 
 pub returns : goal.returns
 returns t c = (

@@ -11,7 +11,7 @@ use Rattle.resiliency.proofs.Onward.{last_all, last_first}
 use Rattle.resiliency.proofs.walk.last_member.Goals as goal
 
 pub below-requires : goal.below-requires
-below-requires c = c.requires.0.tabled.given.few_people
+below-requires c = omega (arith, c.requires.5, c.requires.0.tabled.given.few_people)
 
 pub below-requires-2 : goal.below-requires-2
 below-requires-2 c = omega (arith, c.requires.5, c.requires.0.tabled.given.few_people)
