@@ -54,12 +54,12 @@ fn class_stood(below: &PersonWords, above: &PersonWords, k: usize) -> bool
 {
     let class = below[k];
     let whole = above[k];
+    let mut found = false;
+    // No return from within: so the machine compares many people at a time, and mostly all are gone through.
     for j in 0..k {
-        if (below[j] == class) & (above[j] != whole) {
-            return true;
-        }
+        found = found | ((below[j] == class) & (above[j] != whole));
     }
-    false
+    found
 }
 
 // The same where no class before `k` did so, with the first person of each slot.

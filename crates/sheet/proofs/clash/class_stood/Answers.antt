@@ -1,11 +1,10 @@
--- The invariant: none of the places passed has the clash. Assumes nothing.
-use mathlib.Core.Path.{sym}
-use native.Mathlib.Omega.{arith}
-use Rattle.bits.proofs.Counting.{any_of, none_any}
+-- The invariant: found says whether one of the places passed has the clash. Assumes nothing.
+use mathlib.Core.Path.{refl}
+use Rattle.bits.proofs.Scan.{any-zero, any_more}
 use Rattle.sheet.proofs.clash.class_stood.Goals as goal
 
-pub returns-then-below-j : goal.returns-then-below-j
-returns-then-below-j c = sym (any_of c.args.k _ c.loop-j.j c.loop-j-test.true c.if-below-j.true)
+pub loop-j-init : goal.loop-j-init
+loop-j-init c = any-zero _
 
-pub returns : goal.returns
-returns c = sym (none_any c.args.k _ (λ j l. c.loop-j.invariant.not_yet j (omega arith)))
+pub loop-j-preserved : goal.loop-j-preserved
+loop-j-preserved c = any_more _ _ _ _ c.loop-j.invariant refl
