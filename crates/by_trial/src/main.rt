@@ -5,7 +5,7 @@
 ghost use Rattle.sheet.specs.Readable.{ReadableJob};
 ghost use Rattle.exhaustive.specs.Trial.{PlanFor};
 
-use answer::returned;
+use answer::refusal_number;
 use bits::sizes::{MOST_BYTES, MOST_STEPS, Plan};
 use card::refusal::Fault;
 use exhaustive::plans::{few_plans, next_plan};
@@ -65,7 +65,7 @@ fn write_trials(rt: &impl Print, job: &SheetJob, tried: usize) -> io::Result<()>
 fn write_answer(rt: &impl Print, sheet: &[u8]) -> io::Result<()> {
     let job = match read_job(sheet) {
         Ok(job) => job,
-        Err(refusal) => return write_refusal(rt, returned(refusal)),
+        Err(refusal) => return write_refusal(rt, refusal_number(refusal)),
     };
     let trial = try_every(&job);
     text(rt, b"TRIED")?;
@@ -75,7 +75,7 @@ fn write_answer(rt: &impl Print, sheet: &[u8]) -> io::Result<()> {
         write_trials(rt, &job, trial.tried as usize)?;
     }
     let Some(plan) = trial.plan else {
-        return write_refusal(rt, returned(Fault::Plan.on(0)));
+        return write_refusal(rt, refusal_number(Fault::Plan.on(0)));
     };
     write_plan(rt, &job, &plan)?;
     let figures = rule_figures(&job, &plan);

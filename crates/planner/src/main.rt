@@ -5,7 +5,7 @@
 ghost use Rattle.std.specs.Prelude.{◌≡◌, ◌+◌, ◌<◌, ◌≤◌, length};
 ghost use Rattle.bits.specs.Word.{long_at};
 
-use answer::returned;
+use answer::refusal_number;
 use bits::byte_at;
 use bits::sizes::MOST_BYTES;
 use card::refusal::Fault;
@@ -64,14 +64,14 @@ fn write_spare(rt: &impl Print, bytes: &[u8; SPARE]) -> io::Result<()>
 fn write_answer(rt: &impl Print, sheet: &[u8]) -> io::Result<()> {
     let job = match read_job(sheet) {
         Ok(job) => job,
-        Err(refusal) => return write_refusal(rt, returned(refusal)),
+        Err(refusal) => return write_refusal(rt, refusal_number(refusal)),
     };
     let Some(plan) = plan_job(&job) else {
-        return write_refusal(rt, returned(Fault::Plan.on(0)));
+        return write_refusal(rt, refusal_number(Fault::Plan.on(0)));
     };
     let mut away = [0u8; SPARE];
     if let Err(refusal) = spare(sheet, &mut away, CAP) {
-        return write_refusal(rt, returned(refusal));
+        return write_refusal(rt, refusal_number(refusal));
     }
     write_plan(rt, &job, &plan)?;
     write_spare(rt, &away)?;
