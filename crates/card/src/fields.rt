@@ -7,7 +7,7 @@ use crate::{byte, long, place, word};
 use bits::sizes::{MOST_CLASS_LEVELS, MOST_STEPS};
 
 // The kind of card 0, which no chain has.
-const HEADER_KIND: usize = 1;
+pub const HEADER_KIND: usize = 1;
 
 // The kinds of the cards of a chain, with the numbers that byte 0 of a card has for them.
 #[derive(Clone, Copy, Debug, PartialEq, Eq)]

@@ -2,7 +2,7 @@
 use mathlib.Core.Bool.{Bool, true, false, not, ◌||◌}
 use mathlib.Core.Logic.{◌⊎◌, inl, inr}
 use mathlib.Core.Path.{◌≡◌, refl, sym, ◌∙◌, ap}
-use Prim.Native.Nat.{ℕ, ◌^◌, ◌<◌, ◌≤◌, min}
+use Prim.Native.Nat.{ℕ, zero, suc, ◌^◌, ◌<◌, ◌≤◌, min}
 use native.Mathlib.Omega.{arith}
 use lib.Dec.{eqb, leb, ltb}
 use borrow.Author.Tests.{eqb-true, eqb-false, leb-true, leb-false, ltb-true, ltb-false, not-true, not-false}
@@ -13,7 +13,7 @@ use Rattle.bits.specs.Below.{count}
 use Rattle.bits.specs.Says.{Says}
 use Rattle.bits.proofs.Below.{by_cases, true-false, first_has, first_none}
 use Rattle.bits.proofs.Says.{says_of, says_true, says_false}
-use Rattle.workflow.specs.Problem.{Job, Kind, same, different, at_most, at_least, maxLoad, May, Plan, OfPeople, Valid, figure_of, met, rule_of}
+use Rattle.workflow.specs.Problem.{Job, Kind, same, different, May, Plan, OfPeople, Valid, figure_of, met, rule_of}
 use Rattle.workflow.specs.Skipped.{AsksLeft}
 use lib.ListN.{get_or}
 use Rattle.std.specs.Int.Count.{ones}
@@ -78,14 +78,28 @@ module _ (limit left count : ℕ) where
   pub asks_different : Says (ltb left 2 || eqb count 2) (AsksLeft different limit left count)
   asks_different = says_or (left < 2) (count ≡ 2) (ltb left 2) (eqb count 2) (says_lt left 2) (says_eq count 2)
 
-  pub asks_most : Says (leb count limit) (AsksLeft at_most limit left count)
-  asks_most = says_le count limit
+  -- the same of numbers: 1 to 5 as cards have them for the kinds; 0 is that of the first, and all from 5 on that of the last
+  pub asks_one : (kind : ℕ) → kind ≤ 1 → Says (ltb left 2 || eqb count 1) (AsksLeft (kind_in kind) limit left count)
+  asks_one zero l = asks_same
+  asks_one (suc zero) l = asks_same
+  asks_one (suc (suc n)) l = absurd (omega arith)
 
-  pub asks_least : Says (leb limit count || leb left count) (AsksLeft at_least limit left count)
-  asks_least = says_smaller limit left count
+  pub asks_two : (kind : ℕ) → kind ≡ 2 → Says (ltb left 2 || eqb count 2) (AsksLeft (kind_in kind) limit left count)
+  asks_two kind e = rw e asks_different
 
-  pub asks_load : Says (leb count limit) (AsksLeft maxLoad limit left count)
-  asks_load = says_le count limit
+  pub asks_most : (kind : ℕ) → kind ≡ 3 → Says (leb count limit) (AsksLeft (kind_in kind) limit left count)
+  asks_most kind e = rw e (says_le count limit)
+
+  pub asks_least : (kind : ℕ) → kind ≡ 4 → Says (leb limit count || leb left count) (AsksLeft (kind_in kind) limit left count)
+  asks_least kind e = rw e (says_smaller limit left count)
+
+  pub asks_load : (kind : ℕ) → 5 ≤ kind → Says (leb count limit) (AsksLeft (kind_in kind) limit left count)
+  asks_load zero l = absurd (omega arith)
+  asks_load (suc zero) l = absurd (omega arith)
+  asks_load (suc (suc zero)) l = absurd (omega arith)
+  asks_load (suc (suc (suc zero))) l = absurd (omega arith)
+  asks_load (suc (suc (suc (suc zero)))) l = absurd (omega arith)
+  asks_load (suc (suc (suc (suc (suc n))))) l = says_le count limit
 
 -- what was said of a rule's figure is whether the plan meets the rule
 pub said_met : (j : Job) (kind : Kind) (level limit : ℕ) (scope : ℕ → Bool) (π : Plan) (left number : ℕ) (b : Bool)
