@@ -35,6 +35,8 @@ fn with_signer(signer: [u8; MOST_STEPS], t: usize, p: usize) -> [u8; MOST_STEPS]
 }
 
 // Decides on the signing of a step by a person, both by tag: who has signed each step then, or why it is refused.
+// The hint lets a further return for an unknown person be proved without an answer of its own.
+#[tactic(auto, using(crate::proofs::Deciding::no_person))]
 fn judge(job: &JobState, step: u32, person: u32) -> Result<[u8; MOST_STEPS], Fault>
     ensures { concluded job.now result ≡ sign_answer job.now step person }
 {

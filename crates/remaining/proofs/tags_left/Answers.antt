@@ -10,7 +10,7 @@ pub loop-k-init : goal.loop-k-init
 loop-k-init c = filled_none 12 _ _ _ _ refl
 
 pub bounds-tags-s : goal.bounds-tags-s
-bounds-tags-s c = omega (arith, c.requires.1.below c.loop-k.k c.loop-k-test.true)
+bounds-tags-s c = omega (arith, c.requires.1.below c.loop-k.k c.loop-k-test.true, c.requires.1.few, c.loop-k-test.true)
 
 pub bounds-left-k : goal.bounds-left-k
 bounds-left-k c = omega (arith, c.requires.1.few)
