@@ -38,7 +38,7 @@ fn last_member(
     None
 }
 
-// Whether of the people from one on each is spared by one of the kept plans of a word.
+// Whether of the people from one on each is spared by one of the kept plans of a word. No promise rests on a no.
 fn all_spared(people: usize, from: usize, word: u64, plans: &[u64; MOST_PEOPLE]) -> bool
     requires { (people ≤ 64) × (from ≤ people) × (length plans.now ≡ 64) }
     ensures { result ≡ true → EachSpared people from word plans.now }
